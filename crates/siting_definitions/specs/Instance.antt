@@ -1,0 +1,56 @@
+-- Instances, and their limits.
+use Rattle.std.specs.Prelude.{◌≢◌, ℕ, ◌≤◌, ℤ, pos, ◌≤ℤ◌, unsigned_abs, List, length, All, sum_by, Option, MatchOption, ⊤}
+use Rattle.siting_definitions.specs.declared.Kind.{Kind}
+use Rattle.siting_definitions.specs.Point.{Place}
+use Rattle.siting_definitions.specs.Polygon.{IsConvex}
+
+-- a weighted town: its place in lengths, its weight, and the distance in lengths beyond which a greater one counts no more
+pub record DemandPt : Type 0 where
+  pub x : ℤ
+  pub y : ℤ
+  pub w : ℤ
+  pub cutoff : Option ℤ
+
+pub record Instance : Type 0 where
+  pub kind : Kind
+  pub points : List DemandPt
+  pub permitted : List (List Place)
+  pub forbidden : List (List Place)
+
+abbrev pub place_of : DemandPt → Place
+place_of d = record { x = d.x; y = d.y }
+
+-- the sum of the sizes of the weights
+unfoldable pub weight : List DemandPt → ℕ
+weight ds = sum_by (λ (d : DemandPt). unsigned_abs d.w) ds
+
+abbrev pub IsCoordinate : ℤ → Type 0
+IsCoordinate z = unsigned_abs z ≤ 1000000
+
+pub record IsPlace (v : Place) : Type 0 where
+  pub x : IsCoordinate v.x
+  pub y : IsCoordinate v.y
+
+pub record IsDemandPt (d : DemandPt) : Type 0 where
+  pub x : IsCoordinate d.x
+  pub y : IsCoordinate d.y
+  pub w : unsigned_abs d.w ≤ 16000000
+  pub w_not_zero : d.w ≢ pos 0
+  pub cutoff : MatchOption d.cutoff ⊤ (λ c. (pos 1 ≤ℤ c) × (c ≤ℤ pos 4000000))
+
+pub record IsPolygon (vs : List Place) : Type 0 where
+  pub few : 3 ≤ length vs
+  pub many : length vs ≤ 64
+  pub places : All IsPlace vs
+  pub convex : IsConvex vs
+
+pub record IsInstance (i : Instance) : Type 0 where
+  pub few_points : 1 ≤ length i.points
+  pub many_points : length i.points ≤ 4096
+  pub points : All IsDemandPt i.points
+  pub weight : weight i.points ≤ 16000000
+  pub few_permitted : 1 ≤ length i.permitted
+  pub many_permitted : length i.permitted ≤ 64
+  pub permitted : All IsPolygon i.permitted
+  pub many_forbidden : length i.forbidden ≤ 64
+  pub forbidden : All IsPolygon i.forbidden
