@@ -1,0 +1,12 @@
+//! Points of the plane with whole coordinates, the side of an edge on which a point lies, and closed boxes.
+//!
+//! A length is 65536 grid units. All of it is exact: no number here is rounded.
+#![tactic(auto)]
+
+mod edge;
+mod extent;
+mod point;
+
+pub use edge::side;
+pub use extent::{Extent, boxes_apart};
+pub use point::{Place, Pt};
