@@ -1,5 +1,5 @@
 -- The limits of grid points and of sides.
-use Rattle.std.specs.Prelude.{ℕ, ◌^◌, ◌≤◌, ℤ, unsigned_abs}
+use Rattle.std.specs.Prelude.{◌^◌, ◌≤◌, ℤ, unsigned_abs}
 use Rattle.siting_definitions.specs.Point.{Pt}
 
 -- at most 2 ^ 39 in size

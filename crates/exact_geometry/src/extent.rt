@@ -1,6 +1,6 @@
 //! Closed boxes.
 
-ghost use Rattle.std.specs.Prelude.{◌≡◌};
+ghost use Rattle.std.specs.Prelude.{◌≡◌, ◌||◌, int_lt};
 ghost use Rattle.siting_definitions.specs.Excluded as excluded;
 
 use std::marker::Model;
@@ -28,9 +28,16 @@ impl Model for Extent {
     ghost inverse = { λ e. record { x0 = e.x0; y0 = e.y0; x1 = e.x1; y1 = e.y1 } };
 }
 
+/// Whether the span from `start_a` to `end_a` and the span from `start_b` to `end_b` have no number in common.
+fn spans_apart(start_a: i64, end_a: i64, start_b: i64, end_b: i64) -> bool
+    ensures { result ≡ (int_lt end_a start_b || int_lt end_b start_a) }
+{
+    end_a < start_b || end_b < start_a
+}
+
 /// Whether two boxes have no point in common.
 pub fn boxes_apart(a: Extent, b: Extent) -> bool
     ensures { result ≡ excluded.boxes_apart a b }
 {
-    a.x1 < b.x0 || b.x1 < a.x0 || a.y1 < b.y0 || b.y1 < a.y0
+    spans_apart(a.x0, a.x1, b.x0, b.x1) || spans_apart(a.y0, a.y1, b.y0, b.y1)
 }
