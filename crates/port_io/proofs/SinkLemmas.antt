@@ -1,7 +1,9 @@
 -- Bytes that a sink took one after another.
-use Rattle.std.proofs.Common.{◌≡◌, ℕ, ◌+◌, ◌-◌, ◌≤◌, ◌<◌, List, [], ◌++◌, length, take, drop, Option, None, Some, Bool, true, false, cond, leb, refl, sym, ap, ◌∙◌, arith, append_assoc, length-append}
+use Rattle.std.proofs.Common.{◌≡◌, ℕ, ◌+◌, ◌-◌, ◌≤◌, ◌<◌, List, [], ◌++◌, length, take, drop, Option, None, Some, Bool, true, false, cond, leb, refl, sym, ap, ◌∙◌, arith, append_assoc, length-append, Result, Ok, Err}
+use Rattle.std.specs.Prelude.{IsOk}
 use Rattle.std.proofs.lemmas.List.{append-nil, take-append-le, take_all, length-take-le}
 use Rattle.std.proofs.lemmas.Bool.Decides.{nat_tests}
+use Rattle.port_io.specs.Faults.{HasCause}
 use Rattle.port_io.specs.Bytes.{told, Took, TookFront}
 use Rattle.port_io.proofs.ListLemmas.{take-rest_add}
 
@@ -39,3 +41,8 @@ Took-more room later a b c bytes at count e p q = rw (← take-rest_add bytes at
 -- a sink that took the bytes before a place took a front of them
 pub TookFront-at : (room : Option ℕ) (a b c : Option (List ℕ)) (bytes : List ℕ) (at : ℕ) → at ≤ length bytes → Took room a b (take at bytes) → c ≡ b → TookFront room a c bytes
 TookFront-at room a b c bytes at within p e = record { count = at; within = within; took = rw e p }
+
+-- a port whose count stays 0 does not fail
+pub never-fails : {T E : Type 0} (r : Result T E) → HasCause 0 0 r → IsOk r
+never-fails (Ok v) h = refl
+never-fails (Err e) h = absurd (omega (arith, h.failed (λ q. absurd (omega arith))))

@@ -10,11 +10,10 @@ mod buffered;
 mod memory;
 mod ports;
 mod sure;
-mod waiting;
-mod whole;
-
 #[cfg(test)]
 mod tests;
+mod waiting;
+mod whole;
 
 pub use adapters::{StdSink, StdSource};
 pub use buffered::{Out, Piece, WriteFault};

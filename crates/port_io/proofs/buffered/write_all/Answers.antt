@@ -7,5 +7,5 @@ loop-at-preserved g c = record {
   within = omega (arith, c.in-Ok.ensures.bound);
   took = Took-more _ _ _ _ _ _ _ _ c.loop-at.invariant.room c.loop-at.invariant.took c.in-Ok.ensures.bytes;
   room = cc;
-  later = omega (arith, c.in-Ok.ensures.cause.later)
+  later = omega (arith, c.in-Ok.ensures.cause.later);
 }

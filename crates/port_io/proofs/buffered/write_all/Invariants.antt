@@ -8,7 +8,7 @@ invariant-loop-at g l = record {
   within : l.at ≤ length l.bytes;
   took : Took (g.K.Sink.room l.fn.sink) (g.K.Sink.taken l.fn.sink) (g.K.Sink.taken l.sink) (take l.at l.bytes);
   room : g.K.Sink.room l.sink ≡ g.K.Sink.room l.fn.sink;
-  later : g.K.Sink.faults l.fn.sink ≤ g.K.Sink.faults l.sink
+  later : g.K.Sink.faults l.fn.sink ≤ g.K.Sink.faults l.sink;
 }
 
 -- each turn writes a byte at least

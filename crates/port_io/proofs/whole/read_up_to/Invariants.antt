@@ -7,7 +7,7 @@ abbrev pub invariant-loop-count : goal.invariant-loop-count
 invariant-loop-count g l = record {
   short : vec_len l.bytes ≤ l.limit;
   front : Consumes (g.S.Source.left l.fn.source) (g.S.Source.left l.source) l.bytes.items;
-  later : g.S.Source.faults l.fn.source ≤ g.S.Source.faults l.source
+  later : g.S.Source.faults l.fn.source ≤ g.S.Source.faults l.source;
 }
 
 -- each turn reads a byte at least
