@@ -1,0 +1,4 @@
+mod FirstPiece
+mod FirstField
+pub mod ReadBack
+pub mod NumbersBack

@@ -1,0 +1,37 @@
+ghost use Rattle.std.specs.Prelude.{◌≡◌, ◌<◌, ◌∷◌, length};
+ghost use Rattle.text_lines.specs.Lines.{pieces_of, without_return as stripped, lines_of};
+
+/// The first line of a text that isn't empty, and the bytes after it.
+///
+/// A line ends at a line feed (byte 10) or at the end of the text. It is answered without the line feed and without one
+/// carriage return (byte 13) at its end.
+pub fn next_line(bytes: &[u8]) -> (&[u8], &[u8])
+    requires { 0 < length bytes.now }
+    ensures first { lines_of bytes.now ≡ result.0.now ∷ lines_of result.1.now }
+    ensures shorter { length result.1.now < length bytes.now }
+{
+    let (piece, rest) = next_piece(bytes);
+    (without_return(piece), rest)
+}
+
+fn next_piece(bytes: &[u8]) -> (&[u8], &[u8])
+    requires { 0 < length bytes.now }
+    ensures first { pieces_of bytes.now ≡ result.0.now ∷ pieces_of result.1.now }
+    ensures shorter { length result.1.now < length bytes.now }
+{
+    for (i, byte) in bytes.iter().enumerate() {
+        if *byte == b'\n' {
+            return (&bytes[..i], &bytes[i + 1..]);
+        }
+    }
+    (bytes, &[])
+}
+
+fn without_return(piece: &[u8]) -> &[u8]
+    ensures { result.now ≡ stripped piece.now }
+{
+    match piece {
+        [front @ .., b'\r'] => front,
+        _ => piece,
+    }
+}

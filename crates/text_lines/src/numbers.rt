@@ -1,0 +1,61 @@
+ghost use Rattle.std.specs.Prelude.{◌≡◌, ◌<◌, ◌^◌};
+ghost use Rattle.std.specs.Option.{option_map};
+
+/// What a field is, where a number of at most some size is asked for.
+#[derive(Clone, Copy, Debug, PartialEq, Eq)]
+pub enum Within {
+    /// The field isn't a number.
+    NotANumber,
+    /// It is a number of a greater size.
+    Beyond,
+    /// The number.
+    Value(i64),
+}
+
+ghost use Rattle.text_lines.specs.Numbers.{digits_of, number_of, capped, capped_size, within};
+
+/// The number that a field of one or more digits stands for, or none where the field isn't one.
+///
+/// Leading zeros are accepted, and a number above 2^64 - 1 is answered as 2^64 - 1.
+pub fn digits(field: &[u8]) -> Option<u64>
+    ensures { result ≡ option_map capped (digits_of field.now) }
+{
+    if field.is_empty() {
+        return None;
+    }
+    let mut value: u64 = 0;
+    for byte in field {
+        if !byte.is_ascii_digit() {
+            return None;
+        }
+        value = value
+            .saturating_mul(10)
+            .saturating_add(u64::from(*byte - b'0'));
+    }
+    Some(value)
+}
+
+/// The number that a field of digits stands for, with `-` or `+` before them or neither, or none where the field isn't one.
+///
+/// Leading zeros are accepted, and a size above 2^64 - 1 is answered as 2^64 - 1.
+pub fn number(field: &[u8]) -> Option<i128>
+    ensures { result ≡ option_map capped_size (number_of field.now) }
+{
+    match field {
+        [b'-', rest @ ..] => Some(-i128::from(digits(rest)?)),
+        [b'+', rest @ ..] => Some(i128::from(digits(rest)?)),
+        _ => Some(i128::from(digits(field)?)),
+    }
+}
+
+/// The number that a field stands for, if its size is at most the limit.
+pub fn number_within(field: &[u8], limit: u64) -> Within
+    requires { limit < 2 ^ 63 }
+    ensures { result ≡ within limit (number_of field.now) }
+{
+    match number(field) {
+        None => Within::NotANumber,
+        Some(value) if value.unsigned_abs() <= u128::from(limit) => Within::Value(value as i64),
+        Some(_) => Within::Beyond,
+    }
+}
