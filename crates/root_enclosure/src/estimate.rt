@@ -4,7 +4,7 @@ ghost use Rattle.std.specs.Prelude.{◌^◌, ◌<◌};
 
 /// The reciprocal root between i/256 and (i + 1)/256 is about a straight line. Entry i has 2^31 times its start, and 2^23
 /// times its fall. The first quarter serves the number 0 alone.
-const RECIPROCAL_ROOTS: [(u32, u32); 256] = [
+static RECIPROCAL_ROOTS: [(u32, u32); 256] = [
     (0, 0),
     (0, 0),
     (0, 0),
