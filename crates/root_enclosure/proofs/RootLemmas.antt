@@ -1,7 +1,7 @@
 -- Whole square roots: they exist, they are the only ones, and how they grow.
-use Rattle.std.proofs.Common.{◌≡◌, ℕ, zero, suc, ◌+◌, ◌*◌, ◌/◌, ◌^◌, ◌<◌, ◌≤◌, Bool, true, false, cond, eqb, ltb, leb, refl, add-zero, arith, ⊎_elim}
+use Rattle.std.proofs.Common.{◌≡◌, ℕ, zero, suc, ◌+◌, ◌-◌, ◌*◌, ◌/◌, ◌%◌, ◌^◌, ◌<◌, ◌≤◌, Bool, true, false, cond, eqb, ltb, leb, refl, add-zero, arith, ⊎_elim}
 use Rattle.std.proofs.lemmas.Bool.{cases_lt}
-use Rattle.std.proofs.lemmas.Nat.{mul-le, pow-add}
+use Rattle.std.proofs.lemmas.Nat.{mul-le, mul-lt, pow-add}
 use mir.Val.{bool_byte}
 use borrow.Author.Tests.{eqb-true, eqb-false, ltb-true, ltb-false}
 use lib.Dec.{leb→le, nleb→lt}
@@ -71,6 +71,15 @@ floor_root-lt-pow n k h =
     let same : 2 * k ≡ k + k = omega arith in
     floor_root-lt n (2 ^ k) (rw (← square) (rw same at h))
 
+-- what the square of f leaves of m, where that is computed at 128 bits and found small
+pub rest_is : (m f : ℕ) → m < 2 ^ 126 → f < 2 ^ 63 → (m + (2 ^ 128 - f * f)) % 2 ^ 128 ≤ 2 * f → f * f + (m + (2 ^ 128 - f * f)) % 2 ^ 128 ≡ m
+rest_is m f hm hf h =
+    let small : f * f < 2 ^ 63 * 2 ^ 63 = mul-lt f f (2 ^ 63) (2 ^ 63) hf hf in
+    omega arith
+
+pub IsFloorRoot-rest : (m f rest : ℕ) → f * f + rest ≡ m → rest ≤ 2 * f → IsFloorRoot m f
+IsFloorRoot-rest m f rest e h = record { at_most = omega arith; next_above = omega arith }
+
 -- ---- the root, rounded up
 
 exact : (m f : ℕ) → m ≤ f * f → f * f ≤ m → IsCeilRoot m f
@@ -90,6 +99,14 @@ by_order m f false h e = simp add-zero (exact m f (ltb-false (f * f) m e) h.at_m
 -- the root rounded down, and one more where its square is below m
 pub ceil_root-from_floor : (m f : ℕ) → IsFloorRoot m f → IsCeilRoot m (f + bool_byte (ltb (f * f) m))
 ceil_root-from_floor m f h = by_order m f _ h refl
+
+by_rest : (m f rest : ℕ) (b : Bool) → IsFloorRoot m f → f * f + rest ≡ m → ltb 0 rest ≡ b → IsCeilRoot m (f + bool_byte b)
+by_rest m f rest true h e t = let some : 0 < rest = ltb-true 0 rest t in next m f (omega arith) h.next_above
+by_rest m f rest false h e t = let none : rest ≤ 0 = ltb-false 0 rest t in simp add-zero (exact m f (omega arith) h.at_most)
+
+-- the root rounded down, and one more where something is left of m
+pub ceil_root-from_rest : (m f rest : ℕ) → IsFloorRoot m f → f * f + rest ≡ m → IsCeilRoot m (f + bool_byte (ltb 0 rest))
+ceil_root-from_rest m f rest h e = by_rest m f rest _ h e refl
 
 -- every number has a root
 pub ceil_root-is : (m : ℕ) → IsCeilRoot m (ceil_root m)
