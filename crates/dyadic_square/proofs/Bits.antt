@@ -32,7 +32,7 @@ spread-last k n m a b e h =
     let half : (2 * a + b) / 2 ≡ a = omega arith in
     let odd : (2 * a + b) % 2 ≡ b = omega arith in
     let with : spread (k + suc n) ((2 * a + b) * 2 ^ k) ≡ 4 ^ k * (4 * spread n a + b) =
-        spread-scaled k (suc n) (2 * a + b) ∙ ap (λ v. 4 ^ k * v) (rw (spread-suc n (2 * a + b), half, odd) refl) in
+    spread-scaled k (suc n) (2 * a + b) ∙ ap (λ v. 4 ^ k * v) (rw (spread-suc n (2 * a + b), half, odd) refl) in
     let as_suc : k + suc n ≡ suc k + n = omega arith in
     let without : spread (k + suc n) (a * 2 ^ suc k) ≡ 4 ^ suc k * spread n a = rw as_suc (spread-scaled (suc k) n a) in
     rw (e, with, without, pow-suc 4 k) (omega arith)
@@ -66,3 +66,15 @@ spread_at (v ∷ vs) k zero s h =
 spread_at (v ∷ vs) k (suc i) s h =
     let next : k + suc i ≡ suc k + i = omega arith in
     rw next (spread_at vs (suc k) i (and_parts (v == spread 8 k) (spreads_from (suc k) vs) s).1 (omega arith))
+
+-- higher bits don't count
+pub spread-low : (n a : ℕ) → spread n (a % 2 ^ n) ≡ spread n a
+spread-low n a =
+    let whole : n + 0 ≡ n = omega arith in
+    let parts : spread n a ≡ 4 ^ n * spread 0 (a / 2 ^ n) + spread n (a % 2 ^ n) = rw whole at (spread-parts n 0 a) in
+    let none = spread-zero (a / 2 ^ n) in
+    let nothing : 4 ^ n * spread 0 (a / 2 ^ n) ≡ 4 ^ n * 0 = ap (λ v. 4 ^ n * v) none in
+    omega (arith, parts, nothing)
+
+pub spread_of_byte : (vs : List ℕ) (b : ℕ) → spreads_from 0 vs ≡ true → length vs ≡ 256 → b < 256 → get_or vs b 0 ≡ spread 8 b
+spread_of_byte vs b s e h = let from : 0 + b ≡ b = omega arith in rw from at (spread_at vs 0 b s (omega arith))

@@ -4,4 +4,7 @@ pub mod Tiling
 pub mod Within
 pub mod Trees
 pub mod Bits
+pub mod Moved
+pub mod Held
+pub mod Keys
 pub mod Order

@@ -1,6 +1,6 @@
 -- Sums and products of integers, and powers of two.
 use Rattle.std.proofs.Common.{◌≡◌, ℕ, zero, suc, ◌+◌, ◌-◌, ◌*◌, ◌^◌, ◌<◌, ◌≤◌, ℤ, pos, ◌+ℤ◌, ◌*ℤ◌, ap, sub-one, arith}
-use Rattle.std.proofs.Math.Nat.{pow-suc}
+use Rattle.std.proofs.Math.Nat.{pow-suc, pow-le-pow_right}
 use Rattle.std.proofs.lemmas.Int.{ints}
 use borrow.Author.Differences.{up, down, same_in, sum_is_lem, product_is}
 
@@ -19,3 +19,7 @@ times_plus q z n =
 pub two_halves : (level : ℕ) → 0 < level → 2 ^ level ≡ 2 ^ (level - 1) + 2 ^ (level - 1)
 two_halves zero h = absurd (omega arith)
 two_halves (suc n) h = rw (pow-suc 2 n, sub-one) (omega arith)
+
+-- the side of a square within the limits
+pub pow_small : (level : ℕ) → level ≤ 37 → 2 ^ level ≤ 2 ^ 37
+pow_small level small = pow-le-pow_right {n = 2} (omega arith) small

@@ -35,7 +35,7 @@ aligned-quarter root s i above a = record {
   column = 2 * a.column + far_by (is_right i) 1;
   row = 2 * a.row + far_by (is_upper i) 1;
   x = half_begins root.x s.x a.column s.level (is_right i) above a.x;
-  y = half_begins root.y s.y a.row s.level (is_upper i) above a.y
+  y = half_begins root.y s.y a.row s.level (is_upper i) above a.y;
 }
 
 way_is : (from low : ℤ) (n : ℕ) → low ≡ from +ℤ pos n → way_between low from ≡ n
@@ -91,11 +91,12 @@ ranks-rise (Branch a b c d) root s small fits al =
     let m0 = Rising-within n (preorder a q0) (rank_of root q0) (64 * (z_of root q0 + step)) (rank_of root s + 1) (base + 64 * step) (omega (arith, rank_is root s, rank_is root q0)) (omega arith) r0 in
     let m1 = Rising-within n (preorder b q1) (rank_of root q1) (64 * (z_of root q1 + step)) (base + 64 * step) (base + 128 * step) (omega (arith, rank_is root q1)) (omega arith) r1 in
     let m2 = Rising-within n (preorder c q2) (rank_of root q2) (64 * (z_of root q2 + step)) (base + 128 * step) (base + 192 * step) (omega (arith, rank_is root q2)) (omega arith) r2 in
-    let m3 = Rising-within n (preorder d q3) (rank_of root q3) (64 * (z_of root q3 + step)) (base + 192 * step) (64 * (z_of root s + 4 ^ s.level)) (omega (arith, rank_is root q3)) (omega arith) r3 in
-    (omega arith,
-     Rising-append n (preorder a q0) (preorder b q1 ++ (preorder c q2 ++ preorder d q3)) (rank_of root s + 1) (base + 64 * step) (64 * (z_of root s + 4 ^ s.level)) m0
-     (Rising-append n (preorder b q1) (preorder c q2 ++ preorder d q3) (base + 64 * step) (base + 128 * step) (64 * (z_of root s + 4 ^ s.level)) m1
-     (Rising-append n (preorder c q2) (preorder d q3) (base + 128 * step) (base + 192 * step) (64 * (z_of root s + 4 ^ s.level)) m2 m3)))
+    let m3 = Rising-within n (preorder d q3) (rank_of root q3) (64 * (z_of root q3 + step)) (base + 192 * step) (64 * (z_of root s + 4 ^ s.level)) (omega (arith, rank_is root q3)) (omega arith) r3 in (
+      omega arith,
+      Rising-append n (preorder a q0) (preorder b q1 ++ (preorder c q2 ++ preorder d q3)) (rank_of root s + 1) (base + 64 * step) (64 * (z_of root s + 4 ^ s.level)) m0
+          (Rising-append n (preorder b q1) (preorder c q2 ++ preorder d q3) (base + 64 * step) (base + 128 * step) (64 * (z_of root s + 4 ^ s.level)) m1
+          (Rising-append n (preorder c q2) (preorder d q3) (base + 128 * step) (base + 192 * step) (64 * (z_of root s + 4 ^ s.level)) m2 m3)),
+    )
 
 pub preorder-rises : (t : Tree) (root : Square) → root.level ≤ 37 → Fits t root.level → IsStrictlyIncreasing (map (λ (s : TreeSquare). rank_of root s.square) (preorder t root))
 preorder-rises t root small fits =

@@ -137,25 +137,25 @@ cut_root root above = record { fits = (above, tt, tt, tt, tt); totals = λ f. om
 cut_first : (a b c d u : Tree) (root q : Square) → Fits (Branch a b c d) root.level → IsCut a (quarter_of root 0) q u → IsCut (Branch a b c d) root q (Branch u b c d)
 cut_first a b c d u root q fits cut = record {
   fits = (fits.0, cut.fits, fits.2, fits.3, fits.4);
-  totals = λ f. omega (arith, total-branch f a b c d root, total-branch f u b c d root, cut.totals f)
+  totals = λ f. omega (arith, total-branch f a b c d root, total-branch f u b c d root, cut.totals f);
 }
 
 cut_second : (a b c d u : Tree) (root q : Square) → Fits (Branch a b c d) root.level → IsCut b (quarter_of root 1) q u → IsCut (Branch a b c d) root q (Branch a u c d)
 cut_second a b c d u root q fits cut = record {
   fits = (fits.0, fits.1, cut.fits, fits.3, fits.4);
-  totals = λ f. omega (arith, total-branch f a b c d root, total-branch f a u c d root, cut.totals f)
+  totals = λ f. omega (arith, total-branch f a b c d root, total-branch f a u c d root, cut.totals f);
 }
 
 cut_third : (a b c d u : Tree) (root q : Square) → Fits (Branch a b c d) root.level → IsCut c (quarter_of root 2) q u → IsCut (Branch a b c d) root q (Branch a b u d)
 cut_third a b c d u root q fits cut = record {
   fits = (fits.0, fits.1, fits.2, cut.fits, fits.4);
-  totals = λ f. omega (arith, total-branch f a b c d root, total-branch f a b u d root, cut.totals f)
+  totals = λ f. omega (arith, total-branch f a b c d root, total-branch f a b u d root, cut.totals f);
 }
 
 cut_fourth : (a b c d u : Tree) (root q : Square) → Fits (Branch a b c d) root.level → IsCut d (quarter_of root 3) q u → IsCut (Branch a b c d) root q (Branch a b c u)
 cut_fourth a b c d u root q fits cut = record {
   fits = (fits.0, fits.1, fits.2, fits.3, cut.fits);
-  totals = λ f. omega (arith, total-branch f a b c d root, total-branch f a b c u root, cut.totals f)
+  totals = λ f. omega (arith, total-branch f a b c d root, total-branch f a b c u root, cut.totals f);
 }
 
 -- cutting a leaf gives a tree
@@ -171,23 +171,23 @@ cut_leaf (Branch a b c d) root q above fits at =
     let below = in_rest (split_at root) (leaf_at q) (pa ++ (pb ++ (pc ++ pd))) (λ e. true≢false (ap (λ (s : TreeSquare). s.is_split) e)) at in
     ⊎_elim
     (λ (h : Contains pa (leaf_at q)).
-        let r = cut_leaf a (quarter_of root 0) q above fits.1 h in
-        (Branch r.0 b c d, cut_first a b c d r.0 root q fits r.1))
+    let r = cut_leaf a (quarter_of root 0) q above fits.1 h in
+    (Branch r.0 b c d, cut_first a b c d r.0 root q fits r.1))
     (λ (later : Contains (pb ++ (pc ++ pd)) (leaf_at q)).
-        ⊎_elim
-        (λ (h : Contains pb (leaf_at q)).
-            let r = cut_leaf b (quarter_of root 1) q above fits.2 h in
-            (Branch a r.0 c d, cut_second a b c d r.0 root q fits r.1))
-        (λ (last : Contains (pc ++ pd) (leaf_at q)).
-            ⊎_elim
-            (λ (h : Contains pc (leaf_at q)).
-                let r = cut_leaf c (quarter_of root 2) q above fits.3 h in
-                (Branch a b r.0 d, cut_third a b c d r.0 root q fits r.1))
-            (λ (h : Contains pd (leaf_at q)).
-                let r = cut_leaf d (quarter_of root 3) q above fits.4 h in
-                (Branch a b c r.0, cut_fourth a b c d r.0 root q fits r.1))
-            (Contains-append_cases pc pd (leaf_at q) last))
-        (Contains-append_cases pb (pc ++ pd) (leaf_at q) later))
+    ⊎_elim
+    (λ (h : Contains pb (leaf_at q)).
+    let r = cut_leaf b (quarter_of root 1) q above fits.2 h in
+    (Branch a r.0 c d, cut_second a b c d r.0 root q fits r.1))
+    (λ (last : Contains (pc ++ pd) (leaf_at q)).
+    ⊎_elim
+    (λ (h : Contains pc (leaf_at q)).
+    let r = cut_leaf c (quarter_of root 2) q above fits.3 h in
+    (Branch a b r.0 d, cut_third a b c d r.0 root q fits r.1))
+    (λ (h : Contains pd (leaf_at q)).
+    let r = cut_leaf d (quarter_of root 3) q above fits.4 h in
+    (Branch a b c r.0, cut_fourth a b c d r.0 root q fits r.1))
+    (Contains-append_cases pc pd (leaf_at q) last))
+    (Contains-append_cases pb (pc ++ pd) (leaf_at q) later))
     (Contains-append_cases pa (pb ++ (pc ++ pd)) (leaf_at q) below)
 
 -- a tree has one square, and four more for each that is split

@@ -9,7 +9,7 @@ use Rattle.siting_definitions.specs.Tree.{Tree, Leaf, Branch, Fits, TreeSquare, 
 use Rattle.dyadic_square.specs.Within.{LiesWithin}
 use Rattle.dyadic_square.proofs.Numbers.{two_halves}
 
-far_small : (far : Bool) (half : ℕ) → far_by far half ≤ half
+pub far_small : (far : Bool) (half : ℕ) → far_by far half ≤ half
 far_small true half = omega arith
 far_small false half = omega arith
 
