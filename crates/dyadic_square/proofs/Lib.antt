@@ -8,3 +8,4 @@ pub mod Moved
 pub mod Held
 pub mod Keys
 pub mod Order
+pub mod Walks

@@ -1,8 +1,9 @@
 -- The ranks of a tree's squares rise strictly in preorder.
-use Rattle.std.proofs.Common.{◌≡◌, ℕ, zero, suc, ◌+◌, ◌-◌, ◌*◌, ◌^◌, ◌<◌, ◌≤◌, Bool, true, false, List, [], ◌∷◌, ◌++◌, map, ℤ, pos, ◌+ℤ◌, refl, sym, ◌∙◌, ap, sub-one, arith}
+use Rattle.std.proofs.Common.{◌≡◌, ℕ, zero, suc, ◌+◌, ◌-◌, ◌*◌, ◌^◌, ◌<◌, ◌≤◌, ◌⊎◌, ◌↔◌, ⊎_elim, inl, inr, Bool, true, false, List, [], ◌∷◌, ◌++◌, map, ℤ, pos, ◌+ℤ◌, refl, sym, ◌∙◌, ap, sub-one, arith}
 use Rattle.std.specs.List.Sorted.{IsPermutation, IsNonDecreasingBy, IsStrictlyIncreasing}
 use Rattle.std.proofs.Math.Nat.{pow-suc, one-le-pow}
 use Rattle.std.proofs.lemmas.Int.{ints}
+use Rattle.std.proofs.lemmas.Bool.{cases_order}
 use Rattle.siting_definitions.specs.Square.{Square, quarter_of, is_right, is_upper, far_by}
 use Rattle.siting_definitions.specs.Tree.{Tree, Leaf, Branch, Fits, TreeSquare, preorder}
 use Rattle.dyadic_square.specs.Order.{spread, way_between, z_of, rank_of}
@@ -107,3 +108,18 @@ pub sorted-preorder : (t : Tree) (root : Square) (sorted : List TreeSquare) → 
 sorted-preorder t root sorted small fits p up =
     sorted_same same_tree_square tree_square_decides (λ (s : TreeSquare). rank_of root s.square) sorted (preorder t root) (rank_of root root) (64 * (z_of root root + 4 ^ root.level))
     (totals_from_permutation sorted (preorder t root) p) up (ranks-rise t root root small fits (aligned-refl root))
+
+-- the order of ranks is that of z, and of two squares with one z the larger comes first
+pub rank_order : (root a b : Square) → a.level ≤ 37 → b.level ≤ 37 → (rank_of root a < rank_of root b) ↔ ((z_of root a < z_of root b) ⊎ ((z_of root a ≡ z_of root b) × (b.level < a.level)))
+rank_order root a b small_a small_b =
+    let ra = rank_is root a in
+    let rb = rank_is root b in (
+      λ less.
+          ⊎_elim (λ (e : z_of root a ≡ z_of root b). inr (e, omega arith))
+          (λ (differ : (z_of root a < z_of root b) ⊎ (z_of root b < z_of root a)).
+          ⊎_elim (λ (l : z_of root a < z_of root b). inl l) (λ (g : z_of root b < z_of root a). absurd (omega arith)) differ)
+          (cases_order (z_of root a) (z_of root b)),
+      λ order.
+          ⊎_elim (λ (l : z_of root a < z_of root b). omega arith)
+          (λ (tie : (z_of root a ≡ z_of root b) × (b.level < a.level)). omega (arith, tie.0, tie.1)) order,
+    )

@@ -9,7 +9,8 @@ mod spread;
 mod square;
 
 pub use laws::{
-    closed_holds, leaves_tile, preorder_rises, quarters_tile, sorted_is_preorder, tree_lies_within,
+    closed_holds, leaves_tile, preorder_rises, quarters_tile, rank_orders, sorted_is_preorder,
+    tree_lies_within, tree_size, walks_are_trees,
 };
 pub use square::Square;
 
