@@ -18,6 +18,6 @@ loop-at-preserved g c = record {
       let of = stage g.K.Sink.room g.K.Sink.taken g.K.Sink.faults in
       let spaced = c.make_space.new.self in
       let kept = Put-kept {T = Unit {0}} {E = Unit {0}} {v = tt} (of spaced) (of (record spaced { waiting = c.keep-at.new.self })) _ (g.met.K.Sink.nothing spaced.sink.now) refl c.keep-at.ensures.kept c.in_ok-make_space.ensures.put.failed in
-      let both = Put-then (Put-then c.loop-at.invariant.put c.in_ok-make_space.ensures.put) kept in
+      let both = Put-then {r = Ok tt} (Put-then {r = Ok c.in_ok-make_space.field-0} c.loop-at.invariant.put c.in_ok-make_space.ensures.put) kept in
       rw (append-nil, take-rest_add) at both;
 }
