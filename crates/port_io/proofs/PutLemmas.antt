@@ -1,11 +1,11 @@
 -- Calls on an `Out`, one after another, and the end of an output.
-use Rattle.std.proofs.Common.{◌≡◌, ℕ, ◌+◌, ◌≤◌, ◌<◌, false, List, [], ◌++◌, length, take, drop, get_or, Option, Result, Ok, Err, refl, sym, ap, subst, ◌∙◌, arith, append_assoc, length-append}
-use Rattle.std.specs.Prelude.{is_err, IsErr, OnErr}
+use Rattle.std.proofs.Common.{◌≡◌, ℕ, ◌+◌, ◌<◌, false, List, [], ◌++◌, length, take, drop, get_or, Option, Result, Ok, Err, refl, sym, ap, subst, ◌∙◌, arith, append_assoc, length-append}
+use Rattle.std.specs.Prelude.{IsErr}
 use Rattle.std.specs.List.{flat_map}
 use Rattle.std.proofs.lemmas.List.{append-nil, take-append-le, take_more, flat_map_more, take-append-drop}
 use Rattle.std.proofs.lemmas.List.Concat.{flat_map-append}
 use Rattle.std.proofs.Math.Seq.{take-append-add}
-use Rattle.port_io.specs.Faults.{Rose, HasCause}
+use Rattle.port_io.specs.Faults.{HasCause}
 use Rattle.port_io.specs.Bytes.{Took, TookFront}
 use Rattle.port_io.specs.Output.{SinkView, Stage, fresh, Puts, Put, Wrote}
 use Rattle.port_io.proofs.SinkLemmas.{Took-then}
@@ -124,13 +124,13 @@ Wrote-all {view = view} {after = after} {s = s} {bytes = bytes} {r = Ok v} p q =
   ok = rw (p.ok.parts) (Took-then view.room view.taken s.sink.taken after.taken p.ok.sent s.waiting p.ok.took (rw (p.room) at q.ok));
   err = tt;
   room = q.room ∙ p.room;
-  cause = HasCause-then p.cause (Ok v) q.cause
+  cause = HasCause-then p.cause (Ok v) q.cause;
 }
 Wrote-all {view = view} {after = after} {s = s} {bytes = bytes} {r = Err e} p q = record {
   ok = tt;
   err = let front = TookFront-then [] p.ok (rw (p.room, ← append-nil s.waiting) at q.err) in rw append-nil at front;
   room = q.room ∙ p.room;
-  cause = HasCause-then p.cause (Err e) q.cause
+  cause = HasCause-then p.cause (Err e) q.cause;
 }
 
 -- a call on a new `Out` that failed: the sink took a front of the text
@@ -141,7 +141,7 @@ Wrote-front {q = Err d} {r = Err e} m n p = record {
   ok = tt;
   err = p.err;
   room = p.room;
-  cause = record { later = p.cause.later; failed = p.cause.failed }
+  cause = record { later = p.cause.later; failed = p.cause.failed };
 }
 
 -- what a caller says of its sink after `Out::new`, the calls that put a text, and `finish`; `end` is the sink as the caller sees it then

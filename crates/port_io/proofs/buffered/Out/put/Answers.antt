@@ -1,8 +1,8 @@
-use Rattle.std.proofs.Common.{◌≡◌, ◌+◌, ◌-◌, ◌++◌, length, take, drop, Ok, refl, sym, arith, length-drop}
+use Rattle.std.proofs.Common.{drop, Ok, refl, arith, length-drop}
 use Rattle.std.proofs.lemmas.List.{take-append-drop, append-nil}
-use Rattle.port_io.specs.Output.{Put, stage}
+use Rattle.port_io.specs.Output.{stage}
 use Rattle.port_io.proofs.ListLemmas.{take-rest_add}
-use Rattle.port_io.proofs.PutLemmas.{Put-then, Put-stop, Put-kept, Put-as}
+use Rattle.port_io.proofs.PutLemmas.{Put-then, Put-stop, Put-kept}
 use Rattle.port_io.proofs.buffered.Out.put.Goals as goal
 
 pub returns-in_err-make_space-clause-put : goal.returns-in_err-make_space-clause-put
