@@ -279,6 +279,7 @@ pub fn estimate(m: u128) -> u64
         (lower, 0, 32)
     };
     let zeros = (first | 1).leading_zeros() & 62;
+    let surplus = (zeros / 2 + skipped).wrapping_sub(1) & 63;
 
     // X times 2^64, y times 2^31, and then times 2^62, of which the constant takes a little more than an error of rounding.
     let x = ((((first as u128) << 64 | second as u128) << zeros) >> 64) as u64;
@@ -295,7 +296,7 @@ pub fn estimate(m: u128) -> u64
     let root = (s << 25)
         .wrapping_add(upper_half(rest, y) >> 12)
         .wrapping_add(1);
-    (root & 0x7FFF_FFFF_FFFF_FFFF) >> ((zeros / 2 + skipped).wrapping_sub(1) & 63)
+    (root & 0x7FFF_FFFF_FFFF_FFFF) >> surplus
 }
 
 /// The upper 64 bits of a product.
