@@ -52,6 +52,7 @@ pub fn a_root_in_finer_units_gives_the_root()
 {}
 
 /// The root of m, rounded down, and what its square leaves of m.
+#[inline(always)]
 fn root_and_rest(m: u128) -> (u64, u128)
     requires { m < 2 ^ 126 }
     ensures encloses { IsFloorRoot m result.0 }
@@ -63,27 +64,26 @@ fn root_and_rest(m: u128) -> (u64, u128)
     if rest <= 2 * root as u128 {
         (root, rest)
     } else {
-        root_and_rest_below(m, root)
+        let root = root_below(m, root);
+        (root, m - root as u128 * root as u128)
     }
 }
 
-/// The same, where the estimate isn't the root: one less, or else what a search finds.
+/// The root of m, rounded down, where the estimate isn't it: one less, or else what a search finds.
 #[cold]
 #[inline(never)]
-fn root_and_rest_below(m: u128, estimate: u64) -> (u64, u128)
+fn root_below(m: u128, estimate: u64) -> u64
     requires number { m < 2 ^ 126 }
     requires estimate { estimate < 2 ^ 63 }
-    ensures encloses { IsFloorRoot m result.0 }
-    ensures size { result.0 < 2 ^ 63 }
-    ensures rest { result.0 * result.0 + result.1 ≡ m }
+    ensures encloses { IsFloorRoot m result }
+    ensures size { result < 2 ^ 63 }
 {
     let below = estimate.saturating_sub(1);
     let rest = m.wrapping_sub(below as u128 * below as u128);
     if rest <= 2 * below as u128 {
-        (below, rest)
+        below
     } else {
-        let found = m.isqrt();
-        (found as u64, m - found * found)
+        m.isqrt() as u64
     }
 }
 
