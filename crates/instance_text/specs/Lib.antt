@@ -1,0 +1,4 @@
+pub mod Rows
+pub mod Convex
+pub mod Reading
+pub mod Outcome
