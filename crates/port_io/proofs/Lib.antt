@@ -1,0 +1,4 @@
+pub mod ListLemmas
+pub mod SourceLemmas
+pub mod SinkLemmas
+pub mod PutLemmas

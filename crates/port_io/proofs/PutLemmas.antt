@@ -1,0 +1,138 @@
+-- Calls on an `Out`, one after another, and the end of an output.
+use Rattle.std.proofs.Common.{◌≡◌, ℕ, ◌+◌, ◌≤◌, ◌<◌, false, List, [], ◌++◌, length, take, drop, get_or, Option, Result, Ok, Err, refl, sym, ap, ◌∙◌, arith, append_assoc, length-append}
+use Rattle.std.specs.Prelude.{is_err, IsErr, OnErr}
+use Rattle.std.specs.List.{flat_map}
+use Rattle.std.proofs.lemmas.List.{append-nil, take-append-le, take_more, flat_map_more, take-append-drop}
+use Rattle.std.proofs.lemmas.List.Concat.{flat_map-append}
+use Rattle.std.proofs.Math.Seq.{take-append-add}
+use Rattle.port_io.specs.Faults.{Rose, HasCause}
+use Rattle.port_io.specs.Bytes.{Took, TookFront}
+use Rattle.port_io.specs.Output.{SinkView, Stage, fresh, Puts, Put, Wrote}
+use Rattle.port_io.proofs.SinkLemmas.{Took-then}
+
+-- a call that did not fail, and then another
+pub HasCause-then : {T E U F : Type 0} {a b c : ℕ} {u : U} → HasCause {T = U} {E = F} a b (Ok u) → (r : Result T E) → HasCause b c r → HasCause a c r
+HasCause-then p (Ok v) q = record { later = omega (arith, p.later, q.later); failed = tt }
+HasCause-then p (Err e) q = record { later = omega (arith, p.later, q.later); failed = λ h. omega (arith, p.later, q.failed h) }
+
+-- bytes went on, and then others
+pub Puts-then : {room : Option ℕ} {a b c : Option (List ℕ)} {v w z x y : List ℕ} → Puts room a v b w x → Puts room b w c z y → Puts room a v c z (x ++ y)
+Puts-then {room = room} {a = a} {b = b} {c = c} {v = v} {w = w} {z = z} {x = x} {y = y} p q = record {
+  sent = p.sent ++ q.sent;
+  parts = cc (append_assoc v x y, append_assoc p.sent w y, append_assoc p.sent q.sent z, p.parts, q.parts);
+  took = Took-then room a b c p.sent q.sent p.took q.took;
+}
+
+-- bytes went on, and then the sink took a front of what waited and of others
+pub TookFront-then : {room : Option ℕ} {a b c : Option (List ℕ)} {v w x : List ℕ} (y : List ℕ) → Puts room a v b w x → TookFront room b c (w ++ y) → TookFront room a c (v ++ (x ++ y))
+TookFront-then {room = room} {a = a} {b = b} {c = c} {v = v} {w = w} {x = x} y p q =
+    let whole : v ++ (x ++ y) ≡ p.sent ++ (w ++ y) = cc (append_assoc v x y, append_assoc p.sent w y, p.parts) in
+    record {
+      count = length p.sent + q.count;
+      within = rw (whole, length-append) (omega (arith, q.within));
+      took = rw (whole, take-append-add) (Took-then room a b c p.sent (take q.count (w ++ y)) p.took q.took);
+    }
+
+-- a front of bytes is one of more
+pub TookFront-longer : {room : Option ℕ} {a c : Option (List ℕ)} {x : List ℕ} (y : List ℕ) → TookFront room a c x → TookFront room a c (x ++ y)
+TookFront-longer {x = x} y p = record {
+  count = p.count;
+  within = rw length-append (omega (arith, p.within));
+  took = let h = p.within in rw (take-append-le p.count x y h) p.took;
+}
+
+-- nothing was put
+pub Put-none : {T E : Type 0} {v : T} (a : Stage) → Took a.sink.room a.sink.taken a.sink.taken [] → a.failed ≡ false → Put {E = E} a a [] (Ok v)
+Put-none a nothing open_ = record {
+  ok = record { sent = []; parts = append-nil a.waiting; took = nothing };
+  err = tt;
+  failed = open_;
+  room = refl;
+  cause = record { later = omega arith; failed = tt };
+}
+
+-- bytes were kept behind those that waited
+pub Put-kept : {T E : Type 0} {v : T} (a c : Stage) (bytes : List ℕ) → Took a.sink.room a.sink.taken a.sink.taken [] → c.sink ≡ a.sink → c.waiting ≡ a.waiting ++ bytes → c.failed ≡ false → Put {E = E} a c bytes (Ok v)
+Put-kept a c bytes nothing sink waiting open_ = record {
+  ok = record { sent = []; parts = sym waiting; took = rw (sink) nothing };
+  err = tt;
+  failed = open_;
+  room = ap (λ (s : SinkView). s.room) sink;
+  cause = record { later = rw (sink) (omega arith); failed = tt };
+}
+
+-- the value that a call answers is no matter
+pub Put-as : {T E U F : Type 0} {a b : Stage} {x : List ℕ} {u : U} (v : T) → Put {T = U} {E = F} a b x (Ok u) → Put {T = T} {E = E} a b x (Ok v)
+Put-as v p = record { ok = p.ok; err = tt; failed = p.failed; room = p.room; cause = record { later = p.cause.later; failed = tt } }
+
+-- a call that did not fail, and then another: both texts were put
+pub Put-then : {T E U F : Type 0} {a b c : Stage} {x y : List ℕ} {u : U} {r : Result T E} → Put {T = U} {E = F} a b x (Ok u) → Put b c y r → Put a c (x ++ y) r
+Put-then {r = Ok v} p q = record {
+  ok = Puts-then p.ok (rw p.room at q.ok);
+  err = tt;
+  failed = q.failed;
+  room = q.room ∙ p.room;
+  cause = HasCause-then p.cause (Ok v) q.cause;
+}
+Put-then {y = y} {r = Err e} p q = record {
+  ok = tt;
+  err = TookFront-then y p.ok (rw p.room at q.err);
+  failed = q.failed;
+  room = q.room ∙ p.room;
+  cause = HasCause-then p.cause (Err e) q.cause;
+}
+
+-- a call that failed: no more of the text went on
+pub Put-stop : {T E U F : Type 0} {a b : Stage} {x : List ℕ} {q : Result U F} {r : Result T E} (y : List ℕ) → IsErr q → IsErr r → Put a b x q → Put a b (x ++ y) r
+Put-stop {q = Ok u} {r = r} y i j p = cc
+Put-stop {q = Err d} {r = Ok v} y i j p = cc
+Put-stop {q = Err d} {r = Err e} y i j p = record {
+  ok = tt;
+  err = let front = TookFront-longer y p.err in rw append_assoc at front;
+  failed = p.failed;
+  room = p.room;
+  cause = record { later = p.cause.later; failed = p.cause.failed };
+}
+
+-- a loop that puts the text of each element: the text of the elements up to the next one
+flat_map-next : {X : Type 0} (f : X → List ℕ) (xs : List X) (i : ℕ) (d : X) → i < length xs → flat_map f (take i xs) ++ f (get_or xs i d) ≡ flat_map f (take (i + 1) xs)
+flat_map-next f xs i d h = flat_map_more f [] (take i xs) (get_or xs i d) ∙ ap (flat_map f) (sym (take_more xs i d h))
+
+flat_map-rest : {X : Type 0} (f : X → List ℕ) (xs : List X) (i : ℕ) → flat_map f (take i xs) ++ flat_map f (drop i xs) ≡ flat_map f xs
+flat_map-rest f xs i = sym (flat_map-append f (take i xs) (drop i xs)) ∙ ap (flat_map f) (take-append-drop i xs)
+
+-- the step of such a loop
+pub Put-next : {X T E U F V G : Type 0} {a b c : Stage} {u : U} {t : T} {v : V} (f : X → List ℕ) (xs : List X) (i : ℕ) (d : X) → i < length xs → Put {T = U} {E = F} a b (flat_map f (take i xs)) (Ok u) → Put {T = T} {E = E} b c (f (get_or xs i d)) (Ok t) → Put {T = V} {E = G} a c (flat_map f (take (i + 1) xs)) (Ok v)
+Put-next {v = v} f xs i d h p q = rw (← flat_map-next f xs i d h) (Put-as v (Put-then p q))
+
+-- the exit of such a loop where the text of an element failed
+pub Put-next_stop : {X T E U F V G : Type 0} {a b c : Stage} {u : U} {q : Result T E} {r : Result V G} (f : X → List ℕ) (xs : List X) (i : ℕ) (d : X) → i < length xs → IsErr q → IsErr r → Put {T = U} {E = F} a b (flat_map f (take i xs)) (Ok u) → Put b c (f (get_or xs i d)) q → Put a c (flat_map f xs) r
+Put-next_stop f xs i d h m n p q =
+    let put = Put-stop (flat_map f (drop (i + 1) xs)) m n (Put-then p q) in
+    rw (flat_map-next f xs i d h, flat_map-rest f xs (i + 1)) at put
+
+-- a new `Out`, a text that was put, and the end: the sink took the text
+pub Wrote-all : {T E U F : Type 0} {view after : SinkView} {s : Stage} {bytes : List ℕ} {u : U} {r : Result T E} → Put {T = U} {E = F} (fresh view) s bytes (Ok u) → Wrote s.sink after s.waiting r → Wrote view after bytes r
+Wrote-all {view = view} {after = after} {s = s} {bytes = bytes} {r = Ok v} p q = record {
+  ok = rw (p.ok.parts) (Took-then view.room view.taken s.sink.taken after.taken p.ok.sent s.waiting p.ok.took (rw (p.room) at q.ok));
+  err = tt;
+  room = q.room ∙ p.room;
+  cause = HasCause-then p.cause (Ok v) q.cause;
+}
+Wrote-all {view = view} {after = after} {s = s} {bytes = bytes} {r = Err e} p q = record {
+  ok = tt;
+  err = let front = TookFront-then [] p.ok (rw (p.room, ← append-nil s.waiting) at q.err) in rw append-nil at front;
+  room = q.room ∙ p.room;
+  cause = HasCause-then p.cause (Err e) q.cause;
+}
+
+-- a new `Out`, and a call that failed: the sink took a front of the text
+pub Wrote-stop : {T E U F : Type 0} {view : SinkView} {s : Stage} {bytes : List ℕ} {q : Result U F} {r : Result T E} → IsErr q → IsErr r → Put (fresh view) s bytes q → Wrote view s.sink bytes r
+Wrote-stop {q = Ok u} {r = r} m n p = cc
+Wrote-stop {q = Err d} {r = Ok v} m n p = cc
+Wrote-stop {q = Err d} {r = Err e} m n p = record {
+  ok = tt;
+  err = p.err;
+  room = p.room;
+  cause = record { later = p.cause.later; failed = p.cause.failed };
+}

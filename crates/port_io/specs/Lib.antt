@@ -1,0 +1,5 @@
+pub mod Faults
+pub mod Bytes
+pub mod SinkLaws
+pub mod MemoryPorts
+pub mod Output

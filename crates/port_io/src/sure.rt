@@ -1,0 +1,109 @@
+// A source and a sink in memory that never fail.
+ghost use Rattle.std.specs.Prelude.{◌≡◌, ℕ, ◌+◌, ◌≤◌, Option, None, Some, List, [], length, MatchOption, vec_len, vec_capacity, false, IfOk, if◌then◌else◌};
+ghost use Rattle.port_io.specs.Bytes.{told};
+ghost use Rattle.port_io.specs.MemoryPorts.{SureSinkState, sure_taken};
+ghost use Rattle.port_io.specs.SinkLaws.{sure-nothing};
+
+use crate::memory::{Held, NoMemory};
+use crate::ports::{Failed, Sink, Source};
+use std::alloc::Global;
+use std::marker::Model;
+
+/// A source over bytes in memory. It tells its bytes, never fails, and its count of faults is
+/// always 0.
+#[derive(Drop)]
+pub struct SureSource {
+    held: Held,
+}
+
+impl Model for SureSource {
+    ghost Value = { List ℕ };
+
+    ghost view = { λ s. s.held };
+}
+
+impl SureSource {
+    /// The source of these bytes.
+    pub fn new(bytes: Vec<u8>) -> SureSource
+        ensures { result ≡ bytes.items }
+    {
+        SureSource {
+            held: Held::new(bytes),
+        }
+    }
+}
+
+impl Source for SureSource {
+    ghost left = { λ s. Some s };
+
+    ghost faults = { λ _. 0 };
+
+    fn read(&mut self, buf: &mut [u8]) -> Result<usize, Failed> {
+        let most = buf.len();
+        Ok(self.held.give(buf, most))
+    }
+}
+
+/// A sink in memory with a room. It takes all bytes and never fails, and its count of faults is
+/// always 0. It tells the bytes that it took as long as all of them fit its room.
+#[derive(Drop)]
+pub struct SureSink {
+    bytes: Vec<u8>,
+    room: usize,
+    is_over: bool,
+}
+
+impl Model for SureSink {
+    ghost Value = { SureSinkState };
+
+    ghost view = { λ s. record { room = s.room; bytes = if s.is_over then None else Some s.bytes.items } };
+
+    ghost invariant = { λ s. (vec_len s.bytes ≤ s.room) × (s.room ≤ vec_capacity s.bytes) };
+}
+
+impl SureSink {
+    /// An empty sink that tells this many bytes at most.
+    pub fn with_room(alloc: Global, room: usize) -> Result<SureSink, NoMemory>
+        ensures { IfOk result (λ s. s ≡ record { room = room; bytes = Some [] }) }
+    {
+        match Vec::with_capacity(alloc, room) {
+            Ok(bytes) => Ok(SureSink {
+                bytes,
+                room,
+                is_over: false,
+            }),
+            Err(_) => Err(NoMemory),
+        }
+    }
+
+    /// The bytes taken, or `None` where more were taken than the room.
+    pub fn bytes(&self) -> Option<&[u8]>
+        ensures { MatchOption result (sure_taken self.now ≡ None) (λ bytes. sure_taken self.now ≡ Some bytes.now) }
+    {
+        if self.is_over {
+            None
+        } else {
+            Some(self.bytes.as_slice())
+        }
+    }
+}
+
+impl Sink for SureSink {
+    ghost room = { λ s. Some s.room };
+
+    ghost taken = { sure_taken };
+
+    ghost faults = { λ _. 0 };
+
+    ghost nothing = { sure-nothing };
+
+    fn write(&mut self, piece: &[u8]) -> Result<usize, Failed> {
+        if piece.len() > self.room - self.bytes.len() {
+            self.is_over = true;
+        }
+        if !self.is_over {
+            self.bytes.extend_from_slice(piece).unwrap();
+        }
+        Ok(piece.len())
+    }
+}

@@ -1,0 +1,68 @@
+// Reading an input to its end.
+ghost use Rattle.std.specs.Prelude.{◌≡◌, ◌<◌, ◌≤◌, [], Some, length, vec_len, IfOk, OnOk, IfSome, IsErr, IsErrOf};
+ghost use Rattle.port_io.specs.Faults.{Rose};
+ghost use Rattle.port_io.specs.Bytes.{HasRest};
+
+use crate::ports::Source;
+use std::alloc::Global;
+use thiserror::Error;
+
+// How many bytes one read asks for at most.
+const PIECE: usize = 4096;
+
+/// Why an input was not read to its end.
+#[derive(Debug, Drop, Error)]
+pub enum ReadAll {
+    /// More bytes came than the limit allows.
+    #[error("the input is longer than the limit")]
+    TooLong,
+    /// The source failed.
+    #[error("reading failed")]
+    ReadFault,
+    /// No memory was left for the bytes.
+    #[error("out of memory")]
+    NoMemory,
+}
+
+/// All bytes of the source to its end, of which there may be `limit` at most.
+///
+/// `TooLong` comes where more than `limit` bytes came, `ReadFault` only where the source's count
+/// of faults rose in this call, and `NoMemory` where no memory was left. What was read stays
+/// read: after an error the source has a rest of its bytes left.
+pub fn read_up_to<S: Source>(
+    alloc: Global,
+    source: &mut S,
+    limit: usize,
+) -> Result<Vec<u8>, ReadAll>
+    // All bytes, and no more are left.
+    ensures bytes { IfOk result (λ v. IfSome (S.left source.old) (λ xs. v.items ≡ xs)) }
+    ensures end { OnOk result (IfSome (S.left source.old) (λ _. S.left source.new ≡ Some [])) }
+    ensures short { IfOk result (λ v. vec_len v ≤ limit) }
+
+    // A longer input never gives `Ok`, and `TooLong` comes for no other.
+    ensures long { IfSome (S.left source.old) (λ xs. limit < length xs → IsErr result) }
+    ensures too_long { IsErrOf result ReadAll.TooLong → IfSome (S.left source.old) (λ xs. limit < length xs) }
+    ensures read_fault { IsErrOf result ReadAll.ReadFault → Rose (S.faults source.old) (S.faults source.new) }
+
+    // Whatever the answer, the source goes on telling, and its count has not fallen.
+    ensures rest { IfSome (S.left source.old) (λ xs. HasRest xs (S.left source.new)) }
+    ensures later { S.faults source.old ≤ S.faults source.new }
+{
+    let mut bytes = Vec::new(alloc);
+    let mut piece = [0; PIECE];
+    loop {
+        let count = match source.read(&mut piece) {
+            Ok(count) => count,
+            Err(_) => return Err(ReadAll::ReadFault),
+        };
+        if count == 0 {
+            return Ok(bytes);
+        }
+        if count > limit - bytes.len() {
+            return Err(ReadAll::TooLong);
+        }
+        if bytes.extend_from_slice(&piece[..count]).is_err() {
+            return Err(ReadAll::NoMemory);
+        }
+    }
+}
