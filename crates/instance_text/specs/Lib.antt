@@ -2,3 +2,4 @@ pub mod Rows
 pub mod Convex
 pub mod Reading
 pub mod Outcome
+pub mod Laws

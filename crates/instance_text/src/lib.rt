@@ -2,6 +2,7 @@
 #![tactic(auto)]
 
 mod faults;
+mod laws;
 mod phase;
 
 pub use faults::{
@@ -9,3 +10,4 @@ pub use faults::{
     NOT_CONVEX, OUT_OF_RANGE, TOO_FEW_VERTICES, TOO_MANY_POINTS, TOO_MANY_POLYGONS, TOO_MANY_VERTICES, TWO_KINDS,
     WEIGHT_SUM, ZERO_WEIGHT,
 };
+pub use laws::{text_reads_back, texts_differ};
