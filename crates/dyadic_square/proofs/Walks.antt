@@ -63,7 +63,7 @@ read_one n reads true q s coming ts few e above walk =
     let few_c = shorter n b.rest (preorder c.tree q2) c.rest few_b c.is in
     let d = reads q3 coming c.rest few_c c.later in
     let all = joined_parts ts (preorder a.tree q0) (preorder b.tree q1) (preorder c.tree q2) (preorder d.tree q3) a.rest b.rest c.rest d.rest a.is b.is c.is d.is in
-    record { tree = Branch a.tree b.tree c.tree d.tree; rest = d.rest; fits = (above, a.fits, b.fits, c.fits, d.fits); is = split_first q s ts _ e all; later = d.later }
+    record { tree = Branch a.tree b.tree c.tree d.tree; rest = d.rest; fits = (above, a.fits, b.fits, c.fits, d.fits); is = split_first q s ts ((preorder a.tree q0 ++ (preorder b.tree q1 ++ (preorder c.tree q2 ++ preorder d.tree q3))) ++ d.rest) e all; later = d.later }
 
 reads_all : (n : ℕ) → Reads n
 reads_all n s coming [] few walk = absurd walk
