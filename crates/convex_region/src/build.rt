@@ -1,11 +1,11 @@
 //! Building polygons.
 
-ghost use Rattle.std.specs.Prelude.{◌≡◌, ◌<◌, ◌≤◌, ◌↔◌, ℕ, ℤ, pos, ◌+ℤ◌, ◌-ℤ◌, ◌*ℤ◌, ◌++◌, length, map, take, drop, reverse, IsTrue, IfOk, IfSome, IfNone, All};
+ghost use Rattle.std.specs.Prelude.{◌≡◌, ◌<◌, ◌≤◌, ◌↔◌, ℕ, ℤ, pos, ◌+ℤ◌, ◌-ℤ◌, ◌*ℤ◌, ◌++◌, length, map, take, drop, reverse, IsTrue, IfOk, IfSome, IfNone, All, unsigned_abs};
 ghost use Rattle.siting_definitions.specs.Integer.{least, greatest};
 ghost use Rattle.siting_definitions.specs.Point as points;
 ghost use Rattle.siting_definitions.specs.Polygon as polygons;
 ghost use Rattle.siting_definitions.specs.Polygon.{vertex};
-ghost use Rattle.siting_definitions.specs.Instance.{IsPlace};
+ghost use Rattle.siting_definitions.specs.Instance.{IsCoordinate, IsPlace};
 ghost use Rattle.siting_definitions.specs.Excluded as excluded;
 ghost use Rattle.convex_region.specs.Dent.{IsDent, IsFirstDent, Builds};
 
@@ -92,9 +92,20 @@ fn doubled_area(corners: &[Place]) -> i64
 
 /// Twice the signed area of the triangle of the origin, `a` and `b`, in square lengths.
 fn cross(a: Place, b: Place) -> i64
-    ensures { result ≡ a.x *ℤ b.y -ℤ b.x *ℤ a.y }
+    ensures value { result ≡ a.x *ℤ b.y -ℤ b.x *ℤ a.y }
+    ensures size { unsigned_abs result ≤ 2000000000000 }
 {
-    a.x as i64 * b.y as i64 - b.x as i64 * a.y as i64
+    product(a.x, b.y) - product(b.x, a.y)
+}
+
+/// The product of two coordinates, in square lengths.
+fn product(a: i32, b: i32) -> i64
+    requires a { IsCoordinate a }
+    requires b { IsCoordinate b }
+    ensures value { result ≡ a *ℤ b }
+    ensures size { unsigned_abs result ≤ 1000000000000 }
+{
+    a as i64 * b as i64
 }
 
 /// Whether vertex `j` is no end of edge `i` and doesn't lie strictly to its left.
