@@ -2,9 +2,11 @@
 #![tactic(auto)]
 
 mod build;
+mod laws;
 mod polygon;
 
 pub use build::PolygonFault;
+pub use laws::{a_polygon_is_turned, a_polygon_lies_in_its_box};
 pub use polygon::Polygon;
 
 #[cfg(test)]
