@@ -1,0 +1,3 @@
+pub mod Extremes
+pub mod Vertices
+pub mod Rooted
