@@ -92,14 +92,6 @@ by_equality : (m f : ℕ) (b : Bool) → IsFloorRoot m f → eqb (f * f) m ≡ b
 by_equality m f true h e = exact m f (let same : f * f ≡ m = eqb-true (f * f) m e in omega arith) h.at_most
 by_equality m f false h e = next m f (let other : f * f ≡ m → ⊥ = eqb-false (f * f) m e in omega (arith, h.at_most)) h.next_above
 
-by_order : (m f : ℕ) (b : Bool) → IsFloorRoot m f → ltb (f * f) m ≡ b → IsCeilRoot m (f + bool_byte b)
-by_order m f true h e = next m f (ltb-true (f * f) m e) h.next_above
-by_order m f false h e = simp add-zero (exact m f (ltb-false (f * f) m e) h.at_most)
-
--- the root rounded down, and one more where its square is below m
-pub ceil_root-from_floor : (m f : ℕ) → IsFloorRoot m f → IsCeilRoot m (f + bool_byte (ltb (f * f) m))
-ceil_root-from_floor m f h = by_order m f _ h refl
-
 by_rest : (m f rest : ℕ) (b : Bool) → IsFloorRoot m f → f * f + rest ≡ m → ltb 0 rest ≡ b → IsCeilRoot m (f + bool_byte b)
 by_rest m f rest true h e t = let some : 0 < rest = ltb-true 0 rest t in next m f (omega arith) h.next_above
 by_rest m f rest false h e t = let none : rest ≤ 0 = ltb-false 0 rest t in simp add-zero (exact m f (omega arith) h.at_most)

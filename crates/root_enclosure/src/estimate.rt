@@ -263,7 +263,7 @@ static RECIPROCAL_ROOTS: [(u32, u32); 256] = [
     (2151688737, 16432),
 ];
 
-/// An estimate of the root of m, rounded down: the root or one above it, for all m but a few just below 2^126.
+/// An estimate of the root of m, rounded down: the root or one above it, for `m < 2^126`.
 ///
 /// X is m times the even power of 2 that puts it between 1/4 and 1. Of its reciprocal root y the table gives the first 16
 /// binary digits, and `y (3 - X y^2) / 2` twice as many. The root s of X is then X y, and what s^2 leaves of X, times y / 2,
@@ -279,6 +279,7 @@ pub fn estimate(m: u128) -> u64
         (lower, 0, 32)
     };
     let zeros = (first | 1).leading_zeros() & 62;
+    let root_shift = (zeros / 2 + skipped).wrapping_sub(1) & 63;
 
     // X times 2^64, y times 2^31, and then times 2^62, of which the constant takes a little more than an error of rounding.
     let x = ((((first as u128) << 64 | second as u128) << zeros) >> 64) as u64;
@@ -295,7 +296,7 @@ pub fn estimate(m: u128) -> u64
     let root = (s << 25)
         .wrapping_add(upper_half(rest, y) >> 12)
         .wrapping_add(1);
-    (root & 0x7FFF_FFFF_FFFF_FFFF) >> ((zeros / 2 + skipped).wrapping_sub(1) & 63)
+    root.min(0x7FFF_FFFF_FFFF_FFFF) >> root_shift
 }
 
 /// The upper 64 bits of a product.

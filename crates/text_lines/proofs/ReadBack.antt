@@ -1,5 +1,5 @@
 -- Lines of words are read back from the text that was written of them.
-use Rattle.std.proofs.Common.{◌≡◌, ℕ, ◌-◌, eqb, ltb, Bool, true, false, List, [], ◌∷◌, ◌++◌, length, get_or, map, refl, sym, ap, ◌∙◌, append_assoc, arith, zero, suc}
+use Rattle.std.proofs.Common.{◌≡◌, ℕ, ◌-◌, ◌<◌, eqb, ltb, Bool, true, false, List, [], ◌∷◌, ◌++◌, length, get_or, map, refl, sym, ap, ◌∙◌, append_assoc, arith, zero, suc}
 use Rattle.std.specs.List.{list_all}
 use Rattle.std.proofs.lemmas.Bool.{and_parts, and_from, ltb-true, lt-ltb, ne_eqb}
 use Rattle.std.proofs.lemmas.List.Folds.{list_all-append}
@@ -75,7 +75,8 @@ plain_bytes : (bs : List ℕ) → list_all (λ c. ltb 32 c) bs ≡ true → is_p
 plain_bytes [] above = refl
 plain_bytes (b ∷ bs) above =
     let parts = and_parts _ _ above in
-    and_from _ _ (lt-ltb 31 b (omega (arith, ltb-true 32 b parts.0))) (plain_bytes bs parts.1)
+    let high : 32 < b = ltb-true 32 b parts.0 in
+    and_from _ _ (lt-ltb 31 b (omega arith)) (plain_bytes bs parts.1)
 
 plain_word : (field : List ℕ) → is_word field ≡ true → is_plain field ≡ true
 plain_word [] word = refl

@@ -1,5 +1,5 @@
 -- Whole numbers in decimal.
-use Rattle.std.specs.Prelude.{ℕ, suc, ◌+◌, ◌-◌, ◌*◌, ◌^◌, ◌==◌, nat_le, min, ℤ, pos, negsuc, neg_ℤ, unsigned_abs, if◌then◌else◌, List, [], ◌∷◌, fold, Option, Some, None}
+use Rattle.std.specs.Prelude.{ℕ, suc, ◌+◌, ◌-◌, ◌*◌, ◌^◌, ◌==◌, nat_le, min, ℤ, pos, negsuc, neg_ℤ, unsigned_abs, if◌then◌else◌, List, [], ◌∷◌, fold, Option, Some, None, ◌≤◌, ⊤}
 use Rattle.std.specs.List.{list_all}
 use Rattle.std.specs.Option.{option_map}
 use Rattle.std.specs.Char.{is_ascii_digit}
@@ -36,3 +36,9 @@ capped_size (negsuc n) = minus (capped (suc n))
 abbrev pub within : ℕ → Option ℤ → Within
 within limit None = NotANumber
 within limit (Some z) = if nat_le (unsigned_abs z) limit then Value z else Beyond
+
+-- a number that was found has at most this size
+abbrev pub HasSize : ℕ → Within → Type 0
+HasSize limit NotANumber = ⊤
+HasSize limit Beyond = ⊤
+HasSize limit (Value z) = unsigned_abs z ≤ limit

@@ -12,7 +12,7 @@ pub enum Within {
     Value(i64),
 }
 
-ghost use Rattle.text_lines.specs.Numbers.{digits_of, number_of, capped, capped_size, within};
+ghost use Rattle.text_lines.specs.Numbers.{digits_of, number_of, capped, capped_size, within, HasSize};
 
 /// The number that a field of one or more digits stands for, or none where the field isn't one.
 ///
@@ -51,7 +51,8 @@ pub fn number(field: &[u8]) -> Option<i128>
 /// The number that a field stands for, if its size is at most the limit.
 pub fn number_within(field: &[u8], limit: u64) -> Within
     requires { limit < 2 ^ 63 }
-    ensures { result ≡ within limit (number_of field.now) }
+    ensures value { result ≡ within limit (number_of field.now) }
+    ensures size { HasSize limit result }
 {
     match number(field) {
         None => Within::NotANumber,

@@ -1,0 +1,3 @@
+pub mod Convexity
+pub mod Area
+pub mod ReadsBack

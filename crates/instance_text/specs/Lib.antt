@@ -1,0 +1,5 @@
+pub mod Rows
+pub mod Convex
+pub mod Reading
+pub mod Outcome
+pub mod Laws

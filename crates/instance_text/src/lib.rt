@@ -1,0 +1,13 @@
+//! The text of an instance, `siting 1` and `siting 2`: reading it, with its first fault, and writing it.
+#![tactic(auto)]
+
+mod faults;
+mod laws;
+mod phase;
+
+pub use faults::{
+    AFTER_END, BAD_HEADER, BAD_LINE, BAD_NUMBER, InstanceError, InstanceFault, NO_END, NO_KIND, NO_PERMIT, NO_POINT,
+    NOT_CONVEX, OUT_OF_RANGE, TOO_FEW_VERTICES, TOO_MANY_POINTS, TOO_MANY_POLYGONS, TOO_MANY_VERTICES, TWO_KINDS,
+    WEIGHT_SUM, ZERO_WEIGHT,
+};
+pub use laws::{text_reads_back, texts_differ};

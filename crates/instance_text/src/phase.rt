@@ -1,0 +1,12 @@
+use siting_definitions::Kind;
+
+/// How far the lines of an instance text were read.
+#[derive(Clone, Copy, Debug, PartialEq, Eq)]
+pub enum Phase {
+    /// Before the header.
+    Start,
+    /// After a header, by which points may have cutoffs or not.
+    Body(bool),
+    /// After the end of an instance of this kind.
+    Ended(Kind),
+}
