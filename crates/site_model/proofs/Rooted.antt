@@ -1,5 +1,5 @@
 -- The starting square, and that it holds each point that a permitted polygon holds.
-use Rattle.std.proofs.Common.{◌≡◌, ℕ, zero, suc, ◌+◌, ◌-◌, ◌*◌, ◌/◌, ◌^◌, ◌<◌, ◌≤◌, max, List, [], ◌∷◌, ◌++◌, length, get_or, map, All, Bool, true, false, ◌&&◌, ◌||◌, ℤ, pos, ◌+ℤ◌, ◌-ℤ◌, ◌*ℤ◌, ◌≤ℤ◌, ◌<ℤ◌, unsigned_abs, refl, sym, ap, ◌∙◌, subst, ◌⊎◌, inl, inr, ⊎_elim, arith, length-append}
+use Rattle.std.proofs.Common.{◌≡◌, ℕ, zero, suc, ◌+◌, ◌-◌, ◌*◌, ◌/◌, ◌^◌, ◌<◌, ◌≤◌, max, List, [], ◌∷◌, ◌++◌, length, get_or, map, All, Bool, true, false, ◌&&◌, ◌||◌, ℤ, pos, ◌+ℤ◌, ◌-ℤ◌, ◌*ℤ◌, ◌≤ℤ◌, ◌<ℤ◌, unsigned_abs, refl, sym, ap, ◌∙◌, subst, ◌⊎◌, inl, inr, ⊎_elim, arith, length-append, lit≤}
 use Rattle.std.specs.Prelude.{int_le, int_lt}
 use Rattle.std.specs.List.{list_any}
 use Rattle.std.specs.Float.Ieee.{size}
@@ -9,7 +9,7 @@ use Rattle.std.proofs.lemmas.Nat.{leading_length, pow-add}
 use Rattle.std.proofs.lemmas.List.{get_or_append_left, get_or-append_right}
 use Rattle.std.proofs.lemmas.List.Elements.{All-head, All-tail}
 use Rattle.std.proofs.Math.Pow.{pow_mono}
-use borrow.Author.Differences.{ints}
+use borrow.Author.Differences.{ints, same_in}
 use lib.Ieee.Digits.{size-lt, size_reaches, size-le}
 use Rattle.siting_definitions.specs.Integer.{least, greatest}
 use Rattle.siting_definitions.specs.Point.{Place, Point}
@@ -19,7 +19,7 @@ use Rattle.siting_definitions.specs.Instance.{Instance, IsInstance, IsPolygon}
 use Rattle.siting_definitions.specs.Excluded.{bounds_of}
 use Rattle.siting_definitions.specs.Permitted.{permits}
 use Rattle.siting_definitions.specs.Sites.{vertices, spread, span, root_of}
-use Rattle.siting_definitions.proofs.Integers.{mul_comm_ℤ, mul_le_ℤ, mul_lt_ℤ, le_trans_ℤ, le_lt_trans_ℤ, le-int_le, lt-int_lt}
+use Rattle.siting_definitions.proofs.Integers.{mul_comm_ℤ, mul_assoc_ℤ, mul_le_ℤ, mul_lt_ℤ, le_trans_ℤ, le_lt_trans_ℤ, le-int_le, lt-int_lt}
 use Rattle.convex_region.specs.Box.{LiesInBox}
 use Rattle.convex_region.proofs.Boxes.{x_of, y_of}
 use Rattle.convex_region.proofs.BoxLemmas.{least-at, greatest-at, lies_in_box}
@@ -36,8 +36,8 @@ size_by n m fits tight =
     let least = size-le n m fits in
     ⊎_elim
     (λ (less : size n < m).
-      let powers : 2 ^ (size n + 1) ≤ 2 ^ m = pow_mono (omega arith) in
-      absurd (omega (arith, below, powers, double (size n))))
+    let powers : 2 ^ (size n + 1) ≤ 2 ^ m = pow_mono (omega arith) in
+    absurd (omega (arith, below, powers, double (size n))))
     (λ (more : m ≤ size n). omega (arith, least))
     (cases_lt (size n) m)
 
@@ -52,7 +52,7 @@ span_scaled : (low high : ℤ) → unsigned_abs (pos 65536 *ℤ high -ℤ pos 65
 span_scaled low high = omega (arith, ints)
 
 pub root_is : (e : Extent) (ps : List (List Place)) (i : Instance) → e ≡ bounds_of (vertices ps) → i.permitted ≡ ps → square_of_box e ≡ root_of i
-unfolding bounds_of, root_of
+unfolding bounds_of root_of
 root_is e ps i box same =
     let xs = map x_of (vertices ps) in
     let ys = map y_of (vertices ps) in
@@ -83,8 +83,12 @@ IsSquare-over e box =
       left = corner_fits_below e.x0 box.left;
       right = corner_fits e.x0 _ box.left short;
       lower = corner_fits_below e.y0 box.lower;
-      upper = corner_fits e.y0 _ box.lower short
+      upper = corner_fits e.y0 _ box.lower short;
     }
+
+-- the same, with the parts of the square as the code has them
+pub IsSquare-by : (e : Extent) (x y : ℤ) (n : ℕ) → IsBoxWithin e → x ≡ e.x0 → y ≡ e.y0 → n ≡ (square_of_box e).level → IsSquare (record { x = x; y = y; level = n })
+IsSquare-by e x y n box x_is y_is n_is = rw (x_is, y_is, n_is) (IsSquare-over e box)
 
 -- ---- a permitted polygon that holds a point
 -- each vertex of the polygon is one of them all
@@ -98,20 +102,22 @@ later us vs ps p h = record {
   covered = h.covered;
   polygon = h.polygon;
   part =
-    λ k within.
+      λ k within.
       let at = h.part k within in
       let below : at.0 < length (vertices ps) = at.1 in
       let moved : length us + at.0 - length us ≡ at.0 = omega arith in
-      let past : length us ≤ length us + at.0 = omega arith in
-      (length us + at.0, omega (arith, length-append us (vertices ps)),
-      get_or-append_right us (vertices ps) (length us) (length us + at.0) origin refl past ∙ ap (vertex (vertices ps)) moved ∙ at.2)
+      let past : length us ≤ length us + at.0 = omega arith in (
+        length us + at.0,
+        omega (arith, length-append us (vertices ps)),
+        get_or-append_right us (vertices ps) (length us) (length us + at.0) origin refl past ∙ ap (vertex (vertices ps)) moved ∙ at.2,
+      );
 }
 
 first : (vs : List Place) (ps : List (List Place)) (p : Point) → covers vs p ≡ true → IsPolygon vs → Holder (vs ∷ ps) vs p
 first vs ps p covered polygon = record {
   covered = covered;
   polygon = polygon;
-  part = λ k within. (k, omega (arith, length-append vs (vertices ps)), get_or_append_left vs (vertices ps) origin k within)
+  part = λ k within. (k, omega (arith, length-append vs (vertices ps)), get_or_append_left vs (vertices ps) origin k within);
 }
 
 either : (a b : Bool) → (a || b) ≡ true → (a ≡ true) ⊎ (b ≡ true)
@@ -131,16 +137,16 @@ least_of_all h ps vs p holder =
     let few = holder.polygon.few in
     least_from_below h (least (map h (vertices ps))) vs (omega arith)
     (λ k within.
-      let at = holder.part k within in
-      subst (λ v. (least (map h (vertices ps))) ≤ℤ (h v)) at.2 (least-at h (vertices ps) at.0 at.1))
+    let at = holder.part k within in
+    subst (λ v. (least (map h (vertices ps))) ≤ℤ (h v)) at.2 (least-at h (vertices ps) at.0 at.1))
 
 greatest_of_all : (h : Place → ℤ) (ps : List (List Place)) (vs : List Place) (p : Point) → Holder ps vs p → (greatest (map h vs)) ≤ℤ (greatest (map h (vertices ps)))
 greatest_of_all h ps vs p holder =
     let few = holder.polygon.few in
     greatest_from_above h (greatest (map h (vertices ps))) vs (omega arith)
     (λ k within.
-      let at = holder.part k within in
-      subst (λ v. (h v) ≤ℤ (greatest (map h (vertices ps)))) at.2 (greatest-at h (vertices ps) at.0 at.1))
+    let at = holder.part k within in
+    subst (λ v. (h v) ≤ℤ (greatest (map h (vertices ps)))) at.2 (greatest-at h (vertices ps) at.0 at.1))
 
 -- ---- the law
 scaled_le : (q : ℕ) (a b : ℤ) → a ≤ℤ b → (pos q *ℤ a) ≤ℤ (pos q *ℤ b)
@@ -149,11 +155,21 @@ scaled_le q a b h = let e : (a *ℤ pos q) ≤ℤ (b *ℤ pos q) = mul_le_ℤ a 
 scaled_lt : (q : ℕ) (a b : ℤ) → 1 ≤ q → a <ℤ b → (pos q *ℤ a) <ℤ (pos q *ℤ b)
 scaled_lt q a b one h = let e : (a *ℤ pos q) <ℤ (b *ℤ pos q) = mul_lt_ℤ a b q one h in omega (arith, ints, e, mul_comm_ℤ (pos q) a, mul_comm_ℤ (pos q) b)
 
+moved : (q : ℕ) (a : ℤ) → (pos q *ℤ a) *ℤ pos 65536 ≡ pos q *ℤ (pos 65536 *ℤ a)
+moved q a = mul_assoc_ℤ (pos q) a (pos 65536) ∙ ap (λ z. pos q *ℤ z) (mul_comm_ℤ a (pos 65536))
+
 in_grid_units : (q : ℕ) (a v : ℤ) → (pos q *ℤ a) ≤ℤ v → (pos q *ℤ (pos 65536 *ℤ a)) ≤ℤ (pos 65536 *ℤ v)
-in_grid_units q a v h = omega (arith, ints, h)
+in_grid_units q a v h =
+    subst (λ z. z ≤ℤ (pos 65536 *ℤ v)) (moved q a)
+    (subst (λ z. ((pos q *ℤ a) *ℤ pos 65536) ≤ℤ z) (mul_comm_ℤ v (pos 65536)) (mul_le_ℤ (pos q *ℤ a) v 65536 h))
+
+sum_in_grid_units : (a : ℤ) (s : ℕ) → pos 65536 *ℤ (a +ℤ pos s) ≡ pos 65536 *ℤ a +ℤ pos (65536 * s)
+sum_in_grid_units a s = same_in _ _ (omega (arith, ints))
 
 below_in_grid_units : (q s : ℕ) (a v : ℤ) → v <ℤ (pos q *ℤ (a +ℤ pos s)) → (pos 65536 *ℤ v) <ℤ (pos q *ℤ (pos 65536 *ℤ a +ℤ pos (65536 * s)))
-below_in_grid_units q s a v h = omega (arith, ints, h)
+below_in_grid_units q s a v h =
+    subst (λ z. (pos 65536 *ℤ v) <ℤ z) (moved q (a +ℤ pos s) ∙ ap (λ z. pos q *ℤ z) (sum_in_grid_units a s))
+    (subst (λ z. z <ℤ ((pos q *ℤ (a +ℤ pos s)) *ℤ pos 65536)) (mul_comm_ℤ v (pos 65536)) (mul_lt_ℤ v (pos q *ℤ (a +ℤ pos s)) 65536 (lit≤ tt) h))
 
 -- the span of the side covers the numbers from low to high
 within_span : (low high : ℤ) (s : ℕ) → unsigned_abs (high -ℤ low) < s → high <ℤ (low +ℤ pos s)
@@ -179,7 +195,7 @@ left_true true b e = refl
 left_true false b e = e
 
 pub root_holds : (i : Instance) (p : Point) → IsInstance i → permits i p ≡ true → holds (root_of i) p ≡ true
-unfolding permits, holds, root_of
+unfolding permits holds root_of
 root_holds i p limits permitted =
     let found = holder i.permitted p limits.permitted (left_true _ _ permitted) in
     let all = vertices i.permitted in

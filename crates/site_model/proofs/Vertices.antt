@@ -91,5 +91,5 @@ IsBoxWithin-bounds vs some places =
       left = omega (arith, ints, x_low, x_least, first.x);
       lower = omega (arith, ints, y_low, y_least, first.y);
       right = omega (arith, ints, x_high, x_greatest, first.x);
-      upper = omega (arith, ints, y_high, y_greatest, first.y)
+      upper = omega (arith, ints, y_high, y_greatest, first.y);
     }

@@ -4,8 +4,8 @@ use Rattle.siting_definitions.specs.Square.{Square}
 use Rattle.siting_definitions.specs.Instance.{Instance, IsInstance, weight}
 use Rattle.siting_definitions.specs.Sites.{root_of}
 
--- the instance is within the limits, and the sum of its weights and its starting square are its own
+-- the instance is within the limits, `sum` is that of its weights' sizes, and `root` its starting square
 pub record Fits (i : Instance) (sum : ℤ) (root : Square) : Type 0 where
   pub limits : IsInstance i
-  pub sum : sum ≡ pos (weight i.points)
-  pub root : root ≡ root_of i
+  pub weight_is : sum ≡ pos (weight i.points)
+  pub root_is : root ≡ root_of i

@@ -10,5 +10,4 @@ ghost use Rattle.siting_definitions.specs.Sites.{root_of};
 /// The starting square holds every rational point that is permitted.
 pub fn the_root_holds_every_permitted_point()
     ensures { (i : Instance) (p : Point) → IsInstance i → permits i p ≡ true → holds (root_of i) p ≡ true }
-{
-}
+{}
