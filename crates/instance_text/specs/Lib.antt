@@ -1,5 +1,6 @@
 pub mod Rows
 pub mod Convex
 pub mod Reading
+pub mod Lawful
 pub mod Outcome
 pub mod Laws

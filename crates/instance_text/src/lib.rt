@@ -3,7 +3,12 @@
 
 mod faults;
 mod laws;
+mod numbers;
 mod phase;
+mod points;
+mod polygons;
+mod read;
+mod reading;
 
 pub use faults::{
     AFTER_END, BAD_HEADER, BAD_LINE, BAD_NUMBER, InstanceError, InstanceFault, NO_END, NO_KIND, NO_PERMIT, NO_POINT,
@@ -11,3 +16,4 @@ pub use faults::{
     WEIGHT_SUM, ZERO_WEIGHT,
 };
 pub use laws::{text_reads_back, texts_differ};
+pub use read::read_instance;
