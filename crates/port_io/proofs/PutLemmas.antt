@@ -1,11 +1,11 @@
 -- Calls on an `Out`, one after another, and the end of an output.
-use Rattle.std.proofs.Common.{◌≡◌, ℕ, ◌+◌, ◌≤◌, ◌<◌, false, List, [], ◌++◌, length, take, drop, get_or, Option, Result, Ok, Err, refl, sym, ap, ◌∙◌, arith, append_assoc, length-append}
-use Rattle.std.specs.Prelude.{is_err, IsErr, OnErr}
+use Rattle.std.proofs.Common.{◌≡◌, ℕ, ◌+◌, ◌<◌, false, List, [], ◌++◌, length, take, drop, get_or, Option, Result, Ok, Err, refl, sym, ap, subst, ◌∙◌, arith, append_assoc, length-append}
+use Rattle.std.specs.Prelude.{IsErr}
 use Rattle.std.specs.List.{flat_map}
 use Rattle.std.proofs.lemmas.List.{append-nil, take-append-le, take_more, flat_map_more, take-append-drop}
 use Rattle.std.proofs.lemmas.List.Concat.{flat_map-append}
 use Rattle.std.proofs.Math.Seq.{take-append-add}
-use Rattle.port_io.specs.Faults.{Rose, HasCause}
+use Rattle.port_io.specs.Faults.{HasCause}
 use Rattle.port_io.specs.Bytes.{Took, TookFront}
 use Rattle.port_io.specs.Output.{SinkView, Stage, fresh, Puts, Put, Wrote}
 use Rattle.port_io.proofs.SinkLemmas.{Took-then}
@@ -111,8 +111,15 @@ Put-next_stop f xs i d h m n p q =
     let put = Put-stop (flat_map f (drop (i + 1) xs)) m n (Put-then p q) in
     rw (flat_map-next f xs i d h, flat_map-rest f xs (i + 1)) at put
 
--- a new `Out`, a text that was put, and the end: the sink took the text
-pub Wrote-all : {T E U F : Type 0} {view after : SinkView} {s : Stage} {bytes : List ℕ} {u : U} {r : Result T E} → Put {T = U} {E = F} (fresh view) s bytes (Ok u) → Wrote s.sink after s.waiting r → Wrote view after bytes r
+-- the same step and exit for an element that is known by its place alone
+pub Put-next_item : {X T E U F V G : Type 0} {a b c : Stage} {u : U} {t : T} {v : V} (f : X → List ℕ) (xs : List X) (i : ℕ) (x : X) → x ≡ get_or xs i x → i < length xs → Put {T = U} {E = F} a b (flat_map f (take i xs)) (Ok u) → Put {T = T} {E = E} b c (f x) (Ok t) → Put {T = V} {E = G} a c (flat_map f (take (i + 1) xs)) (Ok v)
+Put-next_item {X = X} {T = T} {E = E} {b = b} {c = c} {t = t} f xs i x e h p q = Put-next f xs i x h p (let P = λ (y : X). Put {T = T} {E = E} b c (f y) (Ok t) in subst P e q)
+
+pub Put-next_item_stop : {X T E U F V G : Type 0} {a b c : Stage} {u : U} {q : Result T E} {r : Result V G} (f : X → List ℕ) (xs : List X) (i : ℕ) (x : X) → x ≡ get_or xs i x → i < length xs → IsErr q → IsErr r → Put {T = U} {E = F} a b (flat_map f (take i xs)) (Ok u) → Put b c (f x) q → Put a c (flat_map f xs) r
+Put-next_item_stop {X = X} {b = b} {c = c} {q = q} f xs i x e h m n p s = Put-next_stop f xs i x h m n p (let P = λ (y : X). Put b c (f y) q in subst P e s)
+
+-- a text that was put to a new `Out`, and the end: the sink took the text
+Wrote-all : {T E U F : Type 0} {view after : SinkView} {s : Stage} {bytes : List ℕ} {u : U} {r : Result T E} → Put {T = U} {E = F} (fresh view) s bytes (Ok u) → Wrote s.sink after s.waiting r → Wrote view after bytes r
 Wrote-all {view = view} {after = after} {s = s} {bytes = bytes} {r = Ok v} p q = record {
   ok = rw (p.ok.parts) (Took-then view.room view.taken s.sink.taken after.taken p.ok.sent s.waiting p.ok.took (rw (p.room) at q.ok));
   err = tt;
@@ -126,13 +133,21 @@ Wrote-all {view = view} {after = after} {s = s} {bytes = bytes} {r = Err e} p q 
   cause = HasCause-then p.cause (Err e) q.cause;
 }
 
--- a new `Out`, and a call that failed: the sink took a front of the text
-pub Wrote-stop : {T E U F : Type 0} {view : SinkView} {s : Stage} {bytes : List ℕ} {q : Result U F} {r : Result T E} → IsErr q → IsErr r → Put (fresh view) s bytes q → Wrote view s.sink bytes r
-Wrote-stop {q = Ok u} {r = r} m n p = cc
-Wrote-stop {q = Err d} {r = Ok v} m n p = cc
-Wrote-stop {q = Err d} {r = Err e} m n p = record {
+-- a call on a new `Out` that failed: the sink took a front of the text
+Wrote-front : {T E U F : Type 0} {view : SinkView} {s : Stage} {bytes : List ℕ} {q : Result U F} {r : Result T E} → IsErr q → IsErr r → Put (fresh view) s bytes q → Wrote view s.sink bytes r
+Wrote-front {q = Ok u} {r = r} m n p = cc
+Wrote-front {q = Err d} {r = Ok v} m n p = cc
+Wrote-front {q = Err d} {r = Err e} m n p = record {
   ok = tt;
   err = p.err;
   room = p.room;
   cause = record { later = p.cause.later; failed = p.cause.failed };
 }
+
+-- what a caller says of its sink after `Out::new`, the calls that put a text, and `finish`; `end` is the sink as the caller sees it then
+pub Wrote-finish : {T E U F : Type 0} {view after end : SinkView} {start s : Stage} {bytes : List ℕ} {u : U} {r : Result T E} → start ≡ fresh view → Put {T = U} {E = F} start s bytes (Ok u) → Wrote s.sink after s.waiting r → end ≡ after → Wrote view end bytes r
+Wrote-finish begun p q seen = rw seen (Wrote-all (rw begun at p) q)
+
+-- the same where one of those calls failed, and the `Out` was let go
+pub Wrote-stop : {T E U F : Type 0} {view end : SinkView} {start s : Stage} {bytes : List ℕ} {q : Result U F} {r : Result T E} → start ≡ fresh view → IsErr q → IsErr r → Put start s bytes q → end ≡ s.sink → Wrote view end bytes r
+Wrote-stop begun m n p seen = rw seen (Wrote-front m n (rw begun at p))

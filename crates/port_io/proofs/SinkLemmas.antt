@@ -1,7 +1,6 @@
 -- Bytes that a sink took one after another.
-use Rattle.std.proofs.Common.{◌≡◌, ℕ, ◌+◌, ◌-◌, ◌≤◌, ◌<◌, List, [], ◌++◌, length, take, drop, Option, None, Some, Bool, true, false, cond, leb, refl, sym, ap, ◌∙◌, arith, append_assoc, length-append, Result, Ok, Err}
+use Rattle.std.proofs.Common.{◌≡◌, ℕ, ◌+◌, ◌-◌, ◌≤◌, List, ◌++◌, length, take, drop, Option, None, Some, Bool, true, false, cond, leb, refl, sym, ap, ◌∙◌, arith, append_assoc, length-append, Result, Ok, Err}
 use Rattle.std.specs.Prelude.{IsOk}
-use Rattle.std.proofs.lemmas.List.{append-nil, take-append-le, take_all, length-take-le}
 use Rattle.std.proofs.lemmas.Bool.Decides.{nat_tests}
 use Rattle.port_io.specs.Faults.{HasCause}
 use Rattle.port_io.specs.Bytes.{told, Took, TookFront}

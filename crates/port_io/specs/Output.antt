@@ -1,5 +1,5 @@
 -- What contracts see of an `Out`, and the one contract of all calls that write to it.
-use Rattle.std.specs.Prelude.{◌≡◌, ℕ, ◌≤◌, Bool, false, List, [], ◌++◌, length, Option, Result, OnOk, OnErr, is_err}
+use Rattle.std.specs.Prelude.{◌≡◌, ℕ, Bool, false, List, [], ◌++◌, Option, Result, OnOk, OnErr, is_err}
 use Rattle.std.specs.Fmt.{signed_decimal}
 use Rattle.port_io.specs.Faults.{HasCause}
 use Rattle.port_io.specs.Bytes.{Took, TookFront}

@@ -2,9 +2,10 @@
 -- such differences into one difference of naturals, on which `omega` decides.
 use Rattle.std.proofs.lemmas.Int.{by_lt_z}
 use Rattle.std.proofs.lemmas.Bool.{cases_lt}
-use Rattle.std.proofs.Common.{⊎_elim, ◌≡◌, ℕ, ◌+◌, ◌*◌, ◌≤◌, ◌<◌, ℤ, pos, ◌+ℤ◌, ◌-ℤ◌, ◌*ℤ◌, neg_ℤ, ◌≤ℤ◌, ◌<ℤ◌, ap, arith}
+use Rattle.std.proofs.Common.{⊎_elim, sym, ◌≡◌, ℕ, ◌+◌, ◌*◌, ◌≤◌, ◌<◌, ℤ, pos, ◌+ℤ◌, ◌-ℤ◌, ◌*ℤ◌, neg_ℤ, ◌≤ℤ◌, ◌<ℤ◌, ap, arith}
 use Rattle.std.proofs.Math.Nat.{mul-le-mul_left}
-use borrow.Author.Differences.{up, down, same_in, sum_is_lem, neg_is, product_is, at_most_in, below_in, le_out, lt_out, ints}
+use borrow.Author.Differences.{up, down, same_in, sum_is_lem, neg_is, product_is, at_most_in, below_in, le_out, lt_out, ints, true_is_le, false_is_le, true_is_lt, false_is_lt}
+use Rattle.std.specs.Prelude.{int_le, int_lt, true, false}
 
 pub diff : ℕ → ℕ → ℤ
 diff a b = pos a -ℤ pos b
@@ -124,3 +125,28 @@ square_le m n h = omega (arith, mul-le-mul_left m h, mul-le-mul_left n h)
 pub square_cancel_le : (m n : ℕ) → m * m ≤ n * n → m ≤ n
 square_cancel_le m n h =
     ⊎_elim (λ less. let more : (n + 1) * (n + 1) ≤ m * m = square_le (n + 1) m (omega arith) in absurd (omega arith)) (λ le. le) (cases_lt n m)
+
+-- ---- what a test means
+pub int_le-true : (a b : ℤ) → int_le a b ≡ true → a ≤ℤ b
+int_le-true a b h = omega (arith, ints)
+
+pub int_le-false : (a b : ℤ) → int_le a b ≡ false → b <ℤ a
+int_le-false a b h = omega (arith, ints)
+
+pub int_lt-true : (a b : ℤ) → int_lt a b ≡ true → a <ℤ b
+int_lt-true a b h = omega (arith, ints)
+
+pub int_lt-false : (a b : ℤ) → int_lt a b ≡ false → b ≤ℤ a
+int_lt-false a b h = omega (arith, ints)
+
+pub le-int_le : (a b : ℤ) → a ≤ℤ b → int_le a b ≡ true
+le-int_le a b h = sym (true_is_le a b (le_out a b h))
+
+pub lt-int_le : (a b : ℤ) → b <ℤ a → int_le a b ≡ false
+lt-int_le a b h = sym (false_is_le a b (lt_out b a h))
+
+pub lt-int_lt : (a b : ℤ) → a <ℤ b → int_lt a b ≡ true
+lt-int_lt a b h = sym (true_is_lt a b (lt_out a b h))
+
+pub le-int_lt : (a b : ℤ) → b ≤ℤ a → int_lt a b ≡ false
+le-int_lt a b h = sym (false_is_lt a b (le_out b a h))

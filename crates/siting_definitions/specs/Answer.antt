@@ -124,9 +124,9 @@ WordCounts h t Empty = h.open_count ≡ 0
 
 -- the counts of leases and of open squares fit the tree
 pub record CountsFit (h : Head) (t : Tally) : Type 0 where
-  pub budget : h.leases ≤ h.budget
-  pub few : h.leases ≤ 2 * t.nodes
-  pub many : t.splits ≤ h.leases
+  pub at_most_budget : h.leases ≤ h.budget
+  pub at_most_two_each : h.leases ≤ 2 * t.nodes
+  pub at_least_splits : t.splits ≤ h.leases
   pub word : WordCounts h t h.word
 
 -- bound, word and counts are those of the marks
@@ -149,7 +149,8 @@ WorkFits h t workers Budget = h.leases + t.open_leaves + 1 ≤ 2 * t.nodes + wor
 WorkFits h t workers Floor = ⊤
 WorkFits h t workers Empty = ⊤
 
--- An answer that was stopped shows its work: each lease but one for each worker gave a square its mark or raised it. A square
--- that isn't an open leaf takes two leases at most, and an open leaf one.
+-- An answer that was stopped shows its work. Of a stop at the budget all leases but one less than there are workers, and of a
+-- full pool all but as many as there are workers, gave a square its mark or raised it. A square that isn't an open leaf takes
+-- two leases at most, and an open leaf one.
 abbrev pub IsWorkedBy : Answer → ℕ → Type 0
 IsWorkedBy a workers = WorkFits a.head (tally_of a.marks) workers a.head.word

@@ -26,7 +26,7 @@ far2 s a =
     far_on s.x (2 ^ s.level) (pos 65536 *ℤ a.x) * far_on s.x (2 ^ s.level) (pos 65536 *ℤ a.x)
     + far_on s.y (2 ^ s.level) (pos 65536 *ℤ a.y) * far_on s.y (2 ^ s.level) (pos 65536 *ℤ a.y)
 
--- a radius, and at most the cutoff where there is one; a length is `unit` of the radius's units
+-- the lesser of a radius and the cutoff; `unit` is how many of the radius's units make a length
 abbrev pub capped : Option ℤ → ℕ → ℕ → ℕ
 capped None unit r = r
 capped (Some c) unit r = min r (unit * unsigned_abs c)

@@ -4,7 +4,7 @@ use Rattle.siting_definitions.specs.declared.Kind.{Kind}
 use Rattle.siting_definitions.specs.Point.{Place}
 use Rattle.siting_definitions.specs.Polygon.{IsConvex}
 
--- a weighted town: its place in lengths, its weight, and the distance in lengths beyond which a greater one counts no more
+-- a demand point: its place in lengths, its weight, and its cutoff in lengths, if it has one: a distance above it counts as it
 pub record DemandPt : Type 0 where
   pub x : ℤ
   pub y : ℤ

@@ -16,14 +16,14 @@ IsAtMost None z = ⊥
 IsAtMost (Some n) z = n ≤ℤ z
 
 -- none, or a number that is at least z
-abbrev pub IsAtLeast : Option ℤ → ℤ → Type 0
-IsAtLeast None z = ⊤
-IsAtLeast (Some n) z = z ≤ℤ n
+abbrev pub IsNoneOrAtLeast : Option ℤ → ℤ → Type 0
+IsNoneOrAtLeast None z = ⊤
+IsNoneOrAtLeast (Some n) z = z ≤ℤ n
 
 -- v is a number of the incumbent that may have been seen when s was cut, with u the least upper cost at the end
 abbrev pub SeenFits : Instance → ℤ → Option ℤ → Square → Option ℤ → Type 0
 SeenFits i gap u s None = (opening_cost i ≡ None) × (centre_cost i s ≡ None)
-SeenFits i gap u s (Some v) = IsAtMost u v × ((fine_of i s +ℤ gap) <ℤ v) × IsAtLeast (opening_cost i) v × IsAtLeast (centre_cost i s) v
+SeenFits i gap u s (Some v) = IsAtMost u v × ((fine_of i s +ℤ gap) <ℤ v) × IsNoneOrAtLeast (opening_cost i) v × IsNoneOrAtLeast (centre_cost i s) v
 
 -- the cut of s, after v was seen, was called for
 pub record IsCalledFor (i : Instance) (gap : ℤ) (u : Option ℤ) (s : Square) (v : Option ℤ) : Type 0 where

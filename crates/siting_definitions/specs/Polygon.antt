@@ -9,7 +9,7 @@ origin = record { x = pos 0; y = pos 0 }
 abbrev pub vertex : List Place → ℕ → Place
 vertex vs i = slice_index_or vs i origin
 
--- the place in the list of the vertex after vertex i of n
+-- the index of the vertex after vertex i of n
 abbrev pub next_of : ℕ → ℕ → ℕ
 next_of n i = cond (i + 1 == n) 0 (i + 1)
 

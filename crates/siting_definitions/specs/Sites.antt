@@ -30,11 +30,12 @@ root_of i =
     let vs = vertices i.permitted in
     record { x = pos 65536 *ℤ least (map (λ (v : Place). v.x) vs); y = pos 65536 *ℤ least (map (λ (v : Place). v.y) vs); level = 16 + size (span vs) }
 
--- the first site of least cost
+-- z, or y where y is there and costs less
 abbrev pub cheaper : (Pt → ℤ) → Pt → Option Pt → Pt
 cheaper cost z None = z
 cheaper cost z (Some y) = cond (int_le (cost z) (cost y)) z y
 
+-- the first site of least cost
 abbrev pub cheapest : (Pt → ℤ) → List Pt → Option Pt
 cheapest cost [] = None
 cheapest cost (z ∷ zs) = Some (cheaper cost z (cheapest cost zs))

@@ -1,8 +1,8 @@
-use Rattle.std.proofs.Common.{◌≡◌, ◌+◌, ◌-◌, ◌++◌, length, take, drop, Ok, refl, sym, arith, length-drop}
+use Rattle.std.proofs.Common.{drop, Ok, refl, arith, length-drop}
 use Rattle.std.proofs.lemmas.List.{take-append-drop, append-nil}
-use Rattle.port_io.specs.Output.{Put, stage}
+use Rattle.port_io.specs.Output.{stage}
 use Rattle.port_io.proofs.ListLemmas.{take-rest_add}
-use Rattle.port_io.proofs.PutLemmas.{Put-then, Put-stop, Put-kept, Put-as}
+use Rattle.port_io.proofs.PutLemmas.{Put-then, Put-stop, Put-kept}
 use Rattle.port_io.proofs.buffered.Out.put.Goals as goal
 
 pub returns-in_err-make_space-clause-put : goal.returns-in_err-make_space-clause-put
@@ -18,6 +18,6 @@ loop-at-preserved g c = record {
       let of = stage g.K.Sink.room g.K.Sink.taken g.K.Sink.faults in
       let spaced = c.make_space.new.self in
       let kept = Put-kept {T = Unit {0}} {E = Unit {0}} {v = tt} (of spaced) (of (record spaced { waiting = c.keep-at.new.self })) _ (g.met.K.Sink.nothing spaced.sink.now) refl c.keep-at.ensures.kept c.in_ok-make_space.ensures.put.failed in
-      let both = Put-then (Put-then c.loop-at.invariant.put c.in_ok-make_space.ensures.put) kept in
+      let both = Put-then {r = Ok tt} (Put-then {r = Ok c.in_ok-make_space.field-0} c.loop-at.invariant.put c.in_ok-make_space.ensures.put) kept in
       rw (append-nil, take-rest_add) at both;
 }

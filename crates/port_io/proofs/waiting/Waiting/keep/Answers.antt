@@ -1,4 +1,4 @@
-use Rattle.std.proofs.Common.{◌≡◌, ◌≤◌, length, take, arith, length-take}
+use Rattle.std.proofs.Common.{take, arith}
 use Rattle.std.proofs.lemmas.List.{length-take-le}
 use Rattle.port_io.proofs.ListLemmas.{take-copied}
 use Rattle.port_io.proofs.waiting.Waiting.keep.Goals as goal

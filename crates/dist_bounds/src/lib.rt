@@ -1,0 +1,2 @@
+//! Squared distances from a place to a square.
+#![tactic(auto)]

@@ -1,0 +1,11 @@
+pub mod Numbers
+pub mod Bag
+pub mod Tiling
+pub mod Within
+pub mod Trees
+pub mod Bits
+pub mod Moved
+pub mod Held
+pub mod Keys
+pub mod Order
+pub mod Walks

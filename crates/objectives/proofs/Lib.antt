@@ -1,0 +1,4 @@
+pub mod BoundLemmas
+pub mod CoarseLemmas
+pub mod QuarterLemmas
+pub mod CostOrder

@@ -1,0 +1,2 @@
+//! Bounds of squares and costs of sites.
+#![tactic(auto)]
