@@ -51,3 +51,47 @@ IsLawful-point w n found point points lawful is few size light pushed =
       forbidden = lawful.forbidden;
       whole = whole_push found.phase found points (omega arith) lawful.whole;
     }
+
+-- one more permitted polygon leaves what was found whole
+whole_permit : (phase : Phase) (found : Found) (permitted : List (List Place)) → length found.permitted ≤ length permitted → IsWhole phase found → IsWhole phase (record found { permitted = permitted })
+whole_permit Start found permitted more whole = tt
+whole_permit (Body cutoffs) found permitted more whole = tt
+whole_permit (Ended kind) found permitted more whole = (whole.0, omega (arith, whole.1))
+
+-- one more permitted polygon within the limits
+pub IsLawful-permit : (w : ℕ) (found : Found) (polygon : List Place) (permitted : List (List Place)) → IsLawful w found → IsPolygon polygon → length found.permitted < 64 → permitted ≡ found.permitted ++ polygon ∷ [] → IsLawful w (record found { permitted = permitted })
+IsLawful-permit w found polygon permitted lawful is few pushed =
+    let longer : length permitted ≡ length found.permitted + 1 = ap length pushed ∙ length-append found.permitted (polygon ∷ []) in
+    record {
+      weight = lawful.weight;
+      light = lawful.light;
+      many_points = lawful.many_points;
+      points = lawful.points;
+      many_permitted = omega arith;
+      permitted = rw pushed (All-push IsPolygon found.permitted polygon lawful.permitted is);
+      many_forbidden = lawful.many_forbidden;
+      forbidden = lawful.forbidden;
+      whole = whole_permit found.phase found permitted (omega arith) lawful.whole;
+    }
+
+-- other forbidden polygons leave what was found whole
+whole_forbid : (phase : Phase) (found : Found) (forbidden : List (List Place)) → IsWhole phase found → IsWhole phase (record found { forbidden = forbidden })
+whole_forbid Start found forbidden whole = tt
+whole_forbid (Body cutoffs) found forbidden whole = tt
+whole_forbid (Ended kind) found forbidden whole = whole
+
+-- one more forbidden polygon within the limits
+pub IsLawful-forbid : (w : ℕ) (found : Found) (polygon : List Place) (forbidden : List (List Place)) → IsLawful w found → IsPolygon polygon → length found.forbidden < 64 → forbidden ≡ found.forbidden ++ polygon ∷ [] → IsLawful w (record found { forbidden = forbidden })
+IsLawful-forbid w found polygon forbidden lawful is few pushed =
+    let longer : length forbidden ≡ length found.forbidden + 1 = ap length pushed ∙ length-append found.forbidden (polygon ∷ []) in
+    record {
+      weight = lawful.weight;
+      light = lawful.light;
+      many_points = lawful.many_points;
+      points = lawful.points;
+      many_permitted = lawful.many_permitted;
+      permitted = lawful.permitted;
+      many_forbidden = omega arith;
+      forbidden = rw pushed (All-push IsPolygon found.forbidden polygon lawful.forbidden is);
+      whole = whole_forbid found.phase found forbidden lawful.whole;
+    }
