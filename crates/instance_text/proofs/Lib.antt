@@ -4,3 +4,4 @@ pub mod ReadsBack
 mod Places
 mod Limits
 mod Built
+mod Written

@@ -4,3 +4,4 @@ pub mod Reading
 pub mod Lawful
 pub mod Outcome
 pub mod Laws
+pub mod Written

@@ -9,6 +9,7 @@ mod points;
 mod polygons;
 mod read;
 mod reading;
+mod write;
 
 pub use faults::{
     AFTER_END, BAD_HEADER, BAD_LINE, BAD_NUMBER, InstanceError, InstanceFault, NO_END, NO_KIND, NO_PERMIT, NO_POINT,
@@ -17,3 +18,4 @@ pub use faults::{
 };
 pub use laws::{text_reads_back, texts_differ};
 pub use read::read_instance;
+pub use write::write_instance;
