@@ -16,10 +16,10 @@ use Rattle.siting_definitions.specs.Polygon.{edges, vertex, next_of, origin, cov
 use Rattle.convex_region.specs.Dent.{IsDent}
 use Rattle.siting_definitions.proofs.Integers.{le-int_le, lt-int_le, lt-int_lt, le-int_lt}
 
-next_below : (n i : ℕ) → i + 1 < n → next_of n i ≡ i + 1
+pub next_below : (n i : ℕ) → i + 1 < n → next_of n i ≡ i + 1
 next_below n i h = grind (arith, nat_tests)
 
-next_last : (n i : ℕ) → i + 1 ≡ n → next_of n i ≡ 0
+pub next_last : (n i : ℕ) → i + 1 ≡ n → next_of n i ≡ 0
 next_last n i h = grind (arith, nat_tests)
 
 pub next-below : (n i : ℕ) → i < n → next_of n i < n

@@ -2,9 +2,11 @@
 #![tactic(auto)]
 
 mod build;
+mod laws;
 mod polygon;
 
 pub use build::PolygonFault;
+pub use laws::{a_polygon_is_turned, a_polygon_lies_in_its_box};
 pub use polygon::Polygon;
 
 #[cfg(test)]
@@ -112,30 +114,26 @@ mod tests {
                 y1: 131072
             }
         );
-        // The point in grid units, whether the closed triangle holds it, and whether its interior does.
+        // A point and its mirror image, whether the closed triangles hold them, and whether their interiors do.
         let table = [
-            (65536, 65536, true, true),
-            // A vertex, a point of each side, and one just beside each.
-            (0, 0, true, false),
-            (131072, 0, true, false),
-            (0, 65536, true, false),
-            (131072, 65536, true, false),
-            (131072, -1, false, false),
-            (-1, 65536, false, false),
-            (131073, 65536, false, false),
-            (131072, 1, true, true),
-            (1, 65536, true, true),
-            (131071, 65536, true, true),
+            (Pt::of(65536, 65536), Pt::of(-65536, 65536), true, true),
+            // A vertex, a point of each side, and points just beside each.
+            (Pt::of(0, 0), Pt::of(0, 0), true, false),
+            (Pt::of(131072, 0), Pt::of(-131072, 0), true, false),
+            (Pt::of(0, 65536), Pt::of(0, 65536), true, false),
+            (Pt::of(131072, 65536), Pt::of(-131072, 65536), true, false),
+            (Pt::of(131072, -1), Pt::of(-131072, -1), false, false),
+            (Pt::of(-1, 65536), Pt::of(1, 65536), false, false),
+            (Pt::of(131073, 65536), Pt::of(-131073, 65536), false, false),
+            (Pt::of(131072, 1), Pt::of(-131072, 1), true, true),
+            (Pt::of(1, 65536), Pt::of(-1, 65536), true, true),
+            (Pt::of(131071, 65536), Pt::of(-131071, 65536), true, true),
         ];
-        for (x, y, closed, inner) in table {
-            assert_eq!(rt; triangle.covers(Pt::of(x, y)), closed, "at {x} {y}");
-            assert_eq!(rt; triangle.covers_inside(Pt::of(x, y)), inner, "at {x} {y}");
-            assert_eq!(rt; mirrored.covers(Pt::of(0 - x, y)), closed, "at {x} {y}");
-            assert_eq!(rt;
-                mirrored.covers_inside(Pt::of(0 - x, y)),
-                inner,
-                "at {x} {y}"
-            );
+        for (p, mirror_image, closed, inner) in table {
+            assert_eq!(rt; triangle.covers(p), closed, "at {p:?}");
+            assert_eq!(rt; triangle.covers_inside(p), inner, "at {p:?}");
+            assert_eq!(rt; mirrored.covers(mirror_image), closed, "at {mirror_image:?}");
+            assert_eq!(rt; mirrored.covers_inside(mirror_image), inner, "at {mirror_image:?}");
         }
     }
 }

@@ -49,7 +49,8 @@ impl Polygon {
 
     /// The bounding box, in grid units.
     pub fn bounds(&self) -> Extent
-        ensures { result ≡ bounds_of self.now }
+        ensures value { result ≡ bounds_of self.now }
+        ensures polygon { IsPolygon self.now }
     {
         self.bounds
     }
