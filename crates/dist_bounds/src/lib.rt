@@ -1,2 +1,86 @@
-//! Squared distances from a place to a square.
+//! The least and the greatest squared distance from a place to a closed square of the grid.
+//!
+//! Both are exact, in grid units squared, of which 2^32 make a square length.
 #![tactic(auto)]
+
+ghost use Rattle.std.specs.Prelude.{◌≡◌, ◌*◌, ◌+◌, ◌^◌, ◌<◌, ◌≤◌, pos, ◌-ℤ◌, ◌*ℤ◌, unsigned_abs, max, true};
+ghost use Rattle.std.specs.Int.{int_max};
+ghost use Rattle.siting_definitions.specs.Point.{Point};
+ghost use Rattle.siting_definitions.specs.Instance.{IsCoordinate};
+ghost use Rattle.siting_definitions.specs.Cost.{distance2};
+ghost use Rattle.siting_definitions.specs.Square.{holds_closed};
+ghost use Rattle.siting_definitions.specs.Bounds as bounds;
+
+use dyadic_square::Square;
+use exact_geometry::Place;
+
+/// The least squared distance from `a` to the closed square, in grid units squared.
+pub fn near2(sq: Square, a: Place) -> u128
+    ensures value { result ≡ bounds.near2 sq a }
+    ensures encloses { (p : Point) → holds_closed sq p ≡ true → result * (p.q * p.q) ≤ 2 ^ 32 * distance2 a p }
+    ensures size { result < 2 ^ 78 }
+{
+    let side = sq.side_len();
+    sum_of_squares(
+        way_outside(sq.x, sq.x + side, on_grid(a.x)),
+        way_outside(sq.y, sq.y + side, on_grid(a.y)),
+    )
+}
+
+/// The greatest squared distance from `a` to the closed square, in grid units squared.
+pub fn far2(sq: Square, a: Place) -> u128
+    ensures value { result ≡ bounds.far2 sq a }
+    ensures encloses { (p : Point) → holds_closed sq p ≡ true → 2 ^ 32 * distance2 a p ≤ result * (p.q * p.q) }
+    ensures size { result < 2 ^ 78 }
+{
+    let side = sq.side_len();
+    sum_of_squares(
+        way_to_far_end(sq.x, sq.x + side, on_grid(a.x)),
+        way_to_far_end(sq.y, sq.y + side, on_grid(a.y)),
+    )
+}
+
+/// A coordinate in lengths, in grid units.
+#[inline(always)]
+fn on_grid(v: i32) -> i64
+    requires { IsCoordinate v }
+    ensures value { result ≡ pos 65536 *ℤ v }
+    ensures size { unsigned_abs result ≤ 65536000000 }
+{
+    65536 * v as i64
+}
+
+/// How far `a` lies outside of the span from `low` to `high`, in grid units.
+#[inline(always)]
+fn way_outside(low: i64, high: i64, a: i64) -> u64
+    requires low { unsigned_abs low ≤ 2 ^ 38 }
+    requires high { unsigned_abs high ≤ 2 ^ 38 }
+    requires a { unsigned_abs a ≤ 65536000000 }
+    ensures value { result ≡ unsigned_abs (int_max (pos 0) (int_max (low -ℤ a) (a -ℤ high))) }
+    ensures size { result ≤ 340413906944 }
+{
+    (low - a).max(a - high).max(0) as u64
+}
+
+/// How far `a` lies from the farther end of the span from `low` to `high`, in grid units.
+#[inline(always)]
+fn way_to_far_end(low: i64, high: i64, a: i64) -> u64
+    requires low { unsigned_abs low ≤ 2 ^ 38 }
+    requires high { unsigned_abs high ≤ 2 ^ 38 }
+    requires a { unsigned_abs a ≤ 65536000000 }
+    ensures value { result ≡ max (unsigned_abs (low -ℤ a)) (unsigned_abs (high -ℤ a)) }
+    ensures size { result ≤ 340413906944 }
+{
+    low.abs_diff(a).max(high.abs_diff(a))
+}
+
+/// The sum of two squares.
+#[inline(always)]
+fn sum_of_squares(a: u64, b: u64) -> u128
+    requires a { a ≤ 340413906944 }
+    requires b { b ≤ 340413906944 }
+    ensures value { result ≡ a * a + b * b }
+    ensures size { result < 2 ^ 78 }
+{
+    a as u128 * a as u128 + b as u128 * b as u128
+}
