@@ -5,7 +5,8 @@ use Rattle.std.specs.Int.{int_max}
 use Rattle.std.proofs.lemmas.Int.{ints, clamps}
 use borrow.Author.Differences.{same_in}
 use Rattle.siting_definitions.specs.Instance.{IsCoordinate}
-use Rattle.siting_definitions.specs.Point.{Place}
+use Rattle.siting_definitions.specs.Point.{Place, Pt, point_of}
+use Rattle.siting_definitions.specs.Cost.{distance2}
 use Rattle.siting_definitions.specs.Square.{Square}
 use Rattle.siting_definitions.specs.Bounds.{near_on, far_on, near2, far2}
 
@@ -81,3 +82,11 @@ near2-from s a ax ay u v r ex ey eu ev e = cc
 pub far2-from : (s : Square) (a : Place) (ax ay : ℤ) (u v r : ℕ) → ax ≡ pos 65536 *ℤ a.x → ay ≡ pos 65536 *ℤ a.y → u ≡ far_on s.x (2 ^ s.level) ax → v ≡ far_on s.y (2 ^ s.level) ay → r ≡ u * u + v * v → r ≡ far2 s a
 unfolding far2
 far2-from s a ax ay u v r ex ey eu ev e = cc
+
+-- ---- the distance to a grid point
+pub distance_passed : (z a : ℤ) (u : ℕ) → unsigned_abs z ≤ 2 ^ 38 → unsigned_abs a ≤ 65536000000 → u ≡ unsigned_abs (passed z -ℤ passed a) → u ≡ unsigned_abs (z -ℤ a)
+distance_passed z a u h k e = e ∙ omega (arith, ints)
+
+pub distance2-from : (z : Pt) (a : Place) (ax ay : ℤ) (u v r : ℕ) → ax ≡ pos 65536 *ℤ a.x → ay ≡ pos 65536 *ℤ a.y → u ≡ unsigned_abs (z.x -ℤ ax) → v ≡ unsigned_abs (z.y -ℤ ay) → r ≡ u * u + v * v → r ≡ distance2 a (point_of z)
+unfolding distance2
+distance2-from z a ax ay u v r ex ey eu ev e = cc
