@@ -2,5 +2,6 @@ pub mod BoundLemmas
 pub mod CoarseLemmas
 pub mod QuarterLemmas
 pub mod CostOrder
-pub mod JoinedTerms
+pub mod Computed
 pub mod Sizes
+pub mod JoinedTerms
