@@ -2,7 +2,7 @@
 use Rattle.std.proofs.Common.{◌≡◌, ℕ, zero, suc, ◌+◌, ◌-◌, ◌*◌, ◌^◌, ◌<◌, ◌≤◌, ℤ, pos, ◌+ℤ◌, ◌*ℤ◌, ap, sub-one, arith}
 use Rattle.std.proofs.Math.Nat.{pow-suc, pow-le-pow_right}
 use Rattle.std.proofs.lemmas.Int.{ints}
-use borrow.Author.Differences.{up, down, same_in, sum_is_lem, product_is}
+use borrow.Author.Differences.{same_in, sum_is_lem, product_is}
 
 pub plus_zero : (z : ℤ) → z +ℤ pos 0 ≡ z
 plus_zero z = omega (arith, ints)

@@ -1,10 +1,10 @@
 -- The lists that are read in preorder are the preorders of trees.
-use Rattle.std.proofs.Common.{◌≡◌, ℕ, zero, suc, ◌+◌, ◌<◌, ◌≤◌, Bool, true, false, cond, List, [], ◌∷◌, ◌++◌, length, refl, sym, ◌∙◌, ap, subst, append_assoc, append-nil, length-append, arith}
+use Rattle.std.proofs.Common.{◌≡◌, ℕ, zero, suc, ◌<◌, ◌≤◌, Bool, true, false, List, [], ◌∷◌, ◌++◌, length, refl, sym, ◌∙◌, ap, subst, append_assoc, append-nil, length-append, arith}
 use Rattle.std.specs.Bool.{OnTrue}
-use Rattle.siting_definitions.specs.Square.{Square, quarter_of, quarters}
+use Rattle.siting_definitions.specs.Square.{Square, quarter_of}
 use Rattle.siting_definitions.specs.Tree.{Tree, Leaf, Branch, Fits, TreeSquare, preorder}
 use Rattle.dyadic_square.specs.Walk.{Walks, coming_after}
-use Rattle.dyadic_square.proofs.Trees.{leaf_at, split_at}
+use Rattle.dyadic_square.proofs.Trees.{split_at}
 
 -- a tree of s is read, and then what comes after it
 pub walk-tree : (t : Tree) (s : Square) (coming : List Square) (rest : List TreeSquare) → Fits t s.level → Walks coming rest → Walks (s ∷ coming) (preorder t s ++ rest)
@@ -42,12 +42,16 @@ shorter n ts part rest few e = omega (arith, ap length e, length-append part res
 joined_parts : (ts pa pb pc pd ra rb rc rd : List TreeSquare) → ts ≡ pa ++ ra → ra ≡ pb ++ rb → rb ≡ pc ++ rc → rc ≡ pd ++ rd → ts ≡ (pa ++ (pb ++ (pc ++ pd))) ++ rd
 joined_parts ts pa pb pc pd ra rb rc rd ea eb ec ed = rw (ea, eb, ec, ed) (simp append_assoc)
 
+split_first : (q s : Square) (ts us : List TreeSquare) → q ≡ s → ts ≡ us → let t : TreeSquare = record { square = q; is_split = true } in t ∷ ts ≡ split_at s ∷ us
+split_first q s ts us e all =
+    let first : Square → List TreeSquare = λ z. split_at z ∷ ts in
+    ap first e ∙ ap (λ z. split_at s ∷ z) all
+
 read_one : (n : ℕ) (reads : Reads n) (b : Bool) (q s : Square) (coming : List Square) (ts : List TreeSquare) → length ts ≤ n → q ≡ s → OnTrue b (0 < s.level) → Walks (coming_after s b coming) ts → IsRead s coming (record { square = q; is_split = b } ∷ ts)
 read_one n reads false q s coming ts few e above walk =
     let first : Square → TreeSquare = λ z. record { square = z; is_split = false } in
     record { tree = Leaf; rest = ts; fits = tt; is = ap (λ z. first z ∷ ts) e; later = walk }
 read_one n reads true q s coming ts few e above walk =
-    let first : Square → TreeSquare = λ z. record { square = z; is_split = true } in
     let q0 = quarter_of s 0 in
     let q1 = quarter_of s 1 in
     let q2 = quarter_of s 2 in
@@ -59,7 +63,7 @@ read_one n reads true q s coming ts few e above walk =
     let few_c = shorter n b.rest (preorder c.tree q2) c.rest few_b c.is in
     let d = reads q3 coming c.rest few_c c.later in
     let all = joined_parts ts (preorder a.tree q0) (preorder b.tree q1) (preorder c.tree q2) (preorder d.tree q3) a.rest b.rest c.rest d.rest a.is b.is c.is d.is in
-    record { tree = Branch a.tree b.tree c.tree d.tree; rest = d.rest; fits = (above, a.fits, b.fits, c.fits, d.fits); is = ap (λ z. first z ∷ ts) e ∙ ap (λ z. first s ∷ z) all; later = d.later }
+    record { tree = Branch a.tree b.tree c.tree d.tree; rest = d.rest; fits = (above, a.fits, b.fits, c.fits, d.fits); is = split_first q s ts ((preorder a.tree q0 ++ (preorder b.tree q1 ++ (preorder c.tree q2 ++ preorder d.tree q3))) ++ d.rest) e all; later = d.later }
 
 reads_all : (n : ℕ) → Reads n
 reads_all n s coming [] few walk = absurd walk

@@ -1,5 +1,5 @@
 -- Trees as they are read in preorder, with a list of the squares to come.
-use Rattle.std.specs.Prelude.{◌≡◌, ℕ, ◌<◌, Bool, cond, List, [], ◌∷◌, ◌++◌, ⊤}
+use Rattle.std.specs.Prelude.{◌≡◌, ◌<◌, Bool, cond, List, [], ◌∷◌, ◌++◌, ⊤}
 use Rattle.std.specs.Bool.{OnTrue}
 use Rattle.siting_definitions.specs.Square.{Square, quarters}
 use Rattle.siting_definitions.specs.Tree.{TreeSquare}

@@ -1,5 +1,5 @@
 -- Squares that lie within another.
-use Rattle.std.specs.Prelude.{ℕ, ◌^◌, ◌≤◌, ℤ, pos, ◌+ℤ◌, ◌≤ℤ◌}
+use Rattle.std.specs.Prelude.{◌^◌, ◌≤◌, pos, ◌+ℤ◌, ◌≤ℤ◌}
 use Rattle.siting_definitions.specs.Square.{Square}
 
 -- the closed square s lies within the closed square root, and isn't larger

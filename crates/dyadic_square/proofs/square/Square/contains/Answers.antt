@@ -1,6 +1,6 @@
-use Rattle.std.proofs.Common.{◌≡◌, Bool, true, false, ℤ, pos, ◌^◌, sym, ◌∙◌, ap, rules}
+use Rattle.std.proofs.Common.{◌≡◌, pos, ◌^◌, sym, ◌∙◌, ap, rules}
 use Rattle.siting_definitions.specs.Point.{Pt}
-use Rattle.siting_definitions.specs.Square.{Square, spans}
+use Rattle.siting_definitions.specs.Square.{Square}
 use Rattle.dyadic_square.proofs.Held.{span_passed, held_both, held_not}
 use Rattle.dyadic_square.proofs.square.Square.contains.Goals as goal
 
