@@ -19,9 +19,17 @@ place x y = record { x = pos x; y = pos y }
 left-diff : (ax ay bx by cx cy : ℕ) → bx * ay + cx * by + ax * cy < ax * by + bx * cy + cx * ay → diff 0 0 <ℤ ((diff bx 0 -ℤ diff ax 0) *ℤ (diff (65536 * cy) 0 -ℤ diff (65536 * ay) 0) -ℤ (diff by 0 -ℤ diff ay 0) *ℤ (diff (65536 * cx) 0 -ℤ diff (65536 * ax) 0))
 left-diff ax ay bx by cx cy h = simp diffs (diff-lt _ _ _ _ (omega arith))
 
-left_pos : (ax ay bx by cx cy : ℕ) → bx * ay + cx * by + ax * cy < ax * by + bx * cy + cx * ay → pos 0 <ℤ ((pos bx -ℤ pos ax) *ℤ (pos (65536 * cy) -ℤ pos (65536 * ay)) -ℤ (pos by -ℤ pos ay) *ℤ (pos (65536 * cx) -ℤ pos (65536 * ax)))
+-- the same at equal numbers
+abbrev Left : ℤ → ℤ → ℤ → ℤ → ℤ → ℤ → ℤ → ℤ → ℤ → Type 0
+Left o ax ay bx by gx gy hx hy = o <ℤ ((bx -ℤ ax) *ℤ (hy -ℤ gy) -ℤ (by -ℤ ay) *ℤ (hx -ℤ gx))
+
+left_same : (o o' ax ax' ay ay' bx bx' by by' gx gx' gy gy' hx hx' hy hy' : ℤ) → o ≡ o' → ax ≡ ax' → ay ≡ ay' → bx ≡ bx' → by ≡ by' → gx ≡ gx' → gy ≡ gy' → hx ≡ hx' → hy ≡ hy' → Left o' ax' ay' bx' by' gx' gy' hx' hy' → Left o ax ay bx by gx gy hx hy
+left_same o o' ax ax' ay ay' bx bx' by by' gx gx' gy gy' hx hx' hy hy' e1 e2 e3 e4 e5 e6 e7 e8 e9 h = rw (e1, e2, e3, e4, e5, e6, e7, e8, e9) h
+
+left_pos : (ax ay bx by cx cy : ℕ) → bx * ay + cx * by + ax * cy < ax * by + bx * cy + cx * ay → Left (pos 0) (pos ax) (pos ay) (pos bx) (pos by) (pos (65536 * ax)) (pos (65536 * ay)) (pos (65536 * cx)) (pos (65536 * cy))
 left_pos ax ay bx by cx cy h =
-    rw (pos-diff 0, pos-diff ax, pos-diff ay, pos-diff bx, pos-diff by, pos-diff (65536 * ax), pos-diff (65536 * ay), pos-diff (65536 * cx), pos-diff (65536 * cy))
+    left_same (pos 0) (diff 0 0) (pos ax) (diff ax 0) (pos ay) (diff ay 0) (pos bx) (diff bx 0) (pos by) (diff by 0) (pos (65536 * ax)) (diff (65536 * ax) 0) (pos (65536 * ay)) (diff (65536 * ay) 0) (pos (65536 * cx)) (diff (65536 * cx) 0) (pos (65536 * cy)) (diff (65536 * cy) 0)
+    (pos-diff 0) (pos-diff ax) (pos-diff ay) (pos-diff bx) (pos-diff by) (pos-diff (65536 * ax)) (pos-diff (65536 * ay)) (pos-diff (65536 * cx)) (pos-diff (65536 * cy))
     (left-diff ax ay bx by cx cy h)
 
 left_of : (ax ay bx by cx cy : ℕ) → bx * ay + cx * by + ax * cy < ax * by + bx * cy + cx * ay → pos 0 <ℤ side (place ax ay) (place bx by) (point_of (grid (place cx cy)))
