@@ -1,3 +1,7 @@
 pub mod Convexity
 pub mod Area
 pub mod ReadsBack
+mod Places
+mod Limits
+mod Built
+mod Written

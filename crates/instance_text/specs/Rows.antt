@@ -1,5 +1,5 @@
 -- What a line of an instance says, by its fields after the first. A fault is told by its number.
-use Rattle.std.specs.Prelude.{ℕ, ◌%◌, ◌==◌, nat_lt, Bool, true, false, not, ◌&&◌, if◌then◌else◌, ℤ, pos, int_le, unsigned_abs, List, [], ◌∷◌, length, codes, Option, Some, None, is_some, Result, Ok, Err}
+use Rattle.std.specs.Prelude.{ℕ, ◌%◌, ◌==◌, nat_lt, Bool, true, false, not, ◌&&◌, if◌then◌else◌, ℤ, pos, int_le, unsigned_abs, List, [], ◌∷◌, length, codes, Option, Some, None, is_some, Result, Ok, Err, ◌≤ℤ◌, ⊤}
 use Rattle.std.specs.List.{list_all}
 use Rattle.std.specs.Str.{bytes_eq}
 use Rattle.siting_definitions.specs.declared.Kind.{Kind}
@@ -69,11 +69,15 @@ are_numbers fields = list_all (λ field. is_number (coordinate_of field)) fields
 abbrev pub are_coordinates : List (List ℕ) → Bool
 are_coordinates fields = list_all (λ field. is_in_range (coordinate_of field)) fields
 
+-- the place with these coordinates
+abbrev pub place_from : List ℕ → List ℕ → Place
+place_from x y = record { x = number_in (coordinate_of x); y = number_in (coordinate_of y) }
+
 -- the places whose coordinates are these fields, in pairs
 abbrev pub places_of : List (List ℕ) → List Place
 places_of [] = []
 places_of (x ∷ []) = []
-places_of (x ∷ y ∷ fields) = record { x = number_in (coordinate_of x); y = number_in (coordinate_of y) } ∷ places_of fields
+places_of (x ∷ y ∷ fields) = place_from x y ∷ places_of fields
 
 -- the polygon with these vertices in order, counter-clockwise
 abbrev pub polygon_of : List Place → Result (List Place) ℕ
@@ -89,3 +93,9 @@ polygon_row fields =
     then (if are_coordinates fields then polygon_of (places_of fields) else Err OUT_OF_RANGE)
     else Err BAD_NUMBER)
     else Err BAD_LINE
+
+-- a cutoff that was found is 1 to 4,000,000
+abbrev pub IsCutoff : Within → Type 0
+IsCutoff NotANumber = ⊤
+IsCutoff Beyond = ⊤
+IsCutoff (Value z) = (pos 1 ≤ℤ z) × (z ≤ℤ pos 4000000)

@@ -1,5 +1,8 @@
 //! The faults of an instance text.
 
+use std::alloc::AllocError;
+use thiserror::Error;
+
 /// The first fault of an instance text.
 #[derive(Clone, Copy, Debug, PartialEq, Eq)]
 pub struct InstanceFault {
@@ -10,12 +13,45 @@ pub struct InstanceFault {
 }
 
 /// Why no instance was read.
-#[derive(Debug, Drop)]
+#[derive(Debug, Drop, Error)]
 pub enum InstanceError {
     /// The bytes are no instance text; this is its first fault.
+    #[error("bad instance {} line {}", .0.number, .0.line)]
     Fault(InstanceFault),
     /// Memory ran out.
+    #[error("no memory")]
     NoMemory,
+}
+
+/// Why a line isn't taken.
+#[derive(Clone, Copy, Debug, PartialEq, Eq)]
+pub(crate) enum LineError {
+    /// This is its first fault.
+    Fault(u8),
+    /// Memory ran out.
+    NoMemory,
+}
+
+impl From<u8> for LineError {
+    ghost use Rattle.std.specs.Prelude.{◌≡◌};
+    ghost use Rattle.instance_text.specs.declared.faults.LineError.TheVariants.{Fault};
+
+    ghost from_gives = { λ number error. error ≡ Fault number };
+
+    fn from(number: u8) -> LineError {
+        LineError::Fault(number)
+    }
+}
+
+impl From<AllocError> for LineError {
+    ghost use Rattle.std.specs.Prelude.{◌≡◌};
+    ghost use Rattle.instance_text.specs.declared.faults.LineError.TheVariants.{NoMemory};
+
+    ghost from_gives = { λ _ error. error ≡ NoMemory };
+
+    fn from(_: AllocError) -> LineError {
+        LineError::NoMemory
+    }
 }
 
 /// The first line that counts isn't `siting 1` or `siting 2`, or there is none.

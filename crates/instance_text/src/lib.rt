@@ -3,7 +3,13 @@
 
 mod faults;
 mod laws;
+mod numbers;
 mod phase;
+mod points;
+mod polygons;
+mod read;
+mod reading;
+mod write;
 
 pub use faults::{
     AFTER_END, BAD_HEADER, BAD_LINE, BAD_NUMBER, InstanceError, InstanceFault, NO_END, NO_KIND, NO_PERMIT, NO_POINT,
@@ -11,3 +17,5 @@ pub use faults::{
     WEIGHT_SUM, ZERO_WEIGHT,
 };
 pub use laws::{text_reads_back, texts_differ};
+pub use read::read_instance;
+pub use write::write_instance;

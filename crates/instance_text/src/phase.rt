@@ -1,4 +1,4 @@
-use siting_definitions::Kind;
+use site_model::Kind;
 
 /// How far the lines of an instance text were read.
 #[derive(Clone, Copy, Debug, PartialEq, Eq)]

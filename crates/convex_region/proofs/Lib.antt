@@ -1,0 +1,4 @@
+pub mod Edges
+pub mod Boxes
+pub mod BoxLemmas
+pub mod AreaLemmas

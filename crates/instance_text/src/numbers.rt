@@ -1,0 +1,71 @@
+//! The numbers of a line, each with its range.
+
+ghost use Rattle.std.specs.Prelude.{◌≡◌};
+ghost use Rattle.std.specs.List.{list_all};
+ghost use Rattle.text_lines.specs.Lines.{fields_of};
+ghost use Rattle.text_lines.specs.Numbers.{HasSize};
+ghost use Rattle.instance_text.specs.Rows.{coordinate_of, weight_of, cutoff_of, is_number as tells_number, are_numbers as tells_numbers, are_coordinates as tells_coordinates, IsCutoff};
+
+use text_lines::{Within, next_field, number_within};
+
+/// The coordinate that a field stands for, in lengths, if its size is at most 1,000,000.
+pub fn coordinate(field: &[u8]) -> Within
+    ensures value { result ≡ coordinate_of field.now }
+    ensures size { HasSize 1000000 result }
+{
+    number_within(field, 1_000_000)
+}
+
+/// The weight that a field stands for, if its size is at most 16,000,000.
+pub fn weight(field: &[u8]) -> Within
+    ensures value { result ≡ weight_of field.now }
+    ensures size { HasSize 16000000 result }
+{
+    number_within(field, 16_000_000)
+}
+
+/// The cutoff that a field stands for, in lengths, if it is 1 to 4,000,000.
+pub fn cutoff(field: &[u8]) -> Within
+    ensures value { result ≡ cutoff_of field.now }
+    ensures size { IsCutoff result }
+{
+    match number_within(field, 4_000_000) {
+        Within::Value(value) if value < 1 => Within::Beyond,
+        other => other,
+    }
+}
+
+/// Whether a field is a number, in its range or not.
+pub fn is_number(value: Within) -> bool
+    ensures { result ≡ tells_number value }
+{
+    !matches!(value, Within::NotANumber)
+}
+
+/// Whether each field is a number.
+pub fn are_numbers(fields: &[u8]) -> bool
+    ensures { result ≡ tells_numbers (fields_of fields.now) }
+{
+    let mut rest = fields;
+    while let Some((field, after)) = next_field(rest) {
+        if !is_number(coordinate(field)) {
+            return false;
+        }
+        rest = after;
+    }
+    true
+}
+
+/// Whether each field is a coordinate.
+pub fn are_coordinates(fields: &[u8]) -> bool
+    ensures { result ≡ tells_coordinates (fields_of fields.now) }
+{
+    let mut rest = fields;
+    while let Some((field, after)) = next_field(rest) {
+        if !matches!(coordinate(field), Within::Value(_)) {
+            return false;
+        }
+        rest = after;
+    }
+    true
+}

@@ -1,0 +1,99 @@
+//! The point and the kind of a line.
+
+ghost use Rattle.std.specs.Prelude.{◌≡◌, None, Option, ℤ, pos, ◌≢◌, ◌≤◌, ◌≤ℤ◌, unsigned_abs, MatchOption, ⊤, IfOk};
+ghost use Rattle.siting_definitions.specs.Instance.{IsCoordinate, IsDemandPt};
+ghost use Rattle.text_lines.specs.Lines.{fields_of};
+ghost use Rattle.text_lines.specs.Numbers.{HasSize};
+ghost use Rattle.instance_text.specs.Rows.{kind_row, point_of as point_from, cut_point_of as cut_point_from, point_row, IsCutoff};
+
+use crate::faults::{BAD_LINE, BAD_NUMBER, OUT_OF_RANGE, ZERO_WEIGHT};
+use crate::numbers::{coordinate, cutoff, is_number, weight};
+use site_model::{DemandPt, Kind};
+use text_lines::{Within, is_word, next_field};
+
+/// The kind that the fields after `kind` say.
+pub fn read_kind(fields: &[u8]) -> Result<Kind, u8>
+    ensures { result ≡ kind_row (fields_of fields.now) }
+{
+    let Some((word, rest)) = next_field(fields) else {
+        return Err(BAD_LINE);
+    };
+    if next_field(rest).is_some() {
+        return Err(BAD_LINE);
+    }
+    if is_word(word, b"sum") {
+        Ok(Kind::Sum)
+    } else if is_word(word, b"max") {
+        Ok(Kind::Max)
+    } else {
+        Err(BAD_LINE)
+    }
+}
+
+/// The point that the fields after `point` say, where `cutoffs` says whether a point may have a cutoff.
+pub fn read_point(cutoffs: bool, fields: &[u8]) -> Result<DemandPt, u8>
+    ensures value { result ≡ point_row cutoffs (fields_of fields.now) }
+    ensures point { IfOk result IsDemandPt }
+{
+    let Some((x, rest)) = next_field(fields) else {
+        return Err(BAD_LINE);
+    };
+    let Some((y, rest)) = next_field(rest) else {
+        return Err(BAD_LINE);
+    };
+    let Some((w, rest)) = next_field(rest) else {
+        return Err(BAD_LINE);
+    };
+    let Some((cut, rest)) = next_field(rest) else {
+        return point_of(coordinate(x), coordinate(y), weight(w), None);
+    };
+    if next_field(rest).is_some() {
+        return Err(BAD_LINE);
+    }
+    if !cutoffs {
+        return Err(BAD_LINE);
+    }
+    cut_point_of(coordinate(x), coordinate(y), weight(w), cutoff(cut))
+}
+
+/// The point with a cutoff of these numbers.
+fn cut_point_of(x: Within, y: Within, w: Within, cut: Within) -> Result<DemandPt, u8>
+    requires x { HasSize 1000000 x }
+    requires y { HasSize 1000000 y }
+    requires w { HasSize 16000000 w }
+    requires cut { IsCutoff cut }
+    ensures value { result ≡ cut_point_from x y w cut }
+    ensures point { IfOk result IsDemandPt }
+{
+    match cut {
+        Within::NotANumber => Err(BAD_NUMBER),
+        Within::Beyond if is_number(x) & is_number(y) & is_number(w) => Err(OUT_OF_RANGE),
+        Within::Beyond => Err(BAD_NUMBER),
+        Within::Value(cut) => point_of(x, y, w, Some(cut as i32)),
+    }
+}
+
+/// The point of these numbers.
+fn point_of(x: Within, y: Within, w: Within, cut: Option<i32>) -> Result<DemandPt, u8>
+    requires x { HasSize 1000000 x }
+    requires y { HasSize 1000000 y }
+    requires w { HasSize 16000000 w }
+    requires cut { MatchOption cut ⊤ (λ c. (pos 1 ≤ℤ c) × (c ≤ℤ pos 4000000)) }
+    ensures value { result ≡ point_from x y w cut }
+    ensures point { IfOk result IsDemandPt }
+{
+    match (x, y, w) {
+        (Within::NotANumber, _, _) | (_, Within::NotANumber, _) | (_, _, Within::NotANumber) => Err(BAD_NUMBER),
+        (Within::Value(_), Within::Value(_), Within::Value(0)) => Err(ZERO_WEIGHT),
+        (Within::Value(x), Within::Value(y), Within::Value(w)) => Ok(demand_point(x as i32, y as i32, w, cut)),
+        _ => Err(OUT_OF_RANGE),
+    }
+}
+
+/// The point (x, y) with this weight and cutoff.
+fn demand_point(x: i32, y: i32, w: i64, cutoff: Option<i32>) -> DemandPt
+    requires { IsDemandPt (record { x = x; y = y; w = w; cutoff = cutoff }) }
+    ensures { result ≡ record { x = x; y = y; w = w; cutoff = cutoff } }
+{
+    DemandPt { x, y, w, cutoff }
+}

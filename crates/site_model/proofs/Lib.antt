@@ -1,0 +1,4 @@
+pub mod Weights
+pub mod Extremes
+pub mod Vertices
+pub mod Rooted
