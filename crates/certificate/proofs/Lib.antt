@@ -1,1 +1,2 @@
 pub mod ClaimsLemmas
+pub mod Written

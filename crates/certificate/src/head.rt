@@ -5,7 +5,7 @@ use siting_definitions::Word;
 use std::marker::Model;
 
 /// An answer without its node lines.
-#[derive(Debug, Drop)]
+#[derive(Drop)]
 pub struct Head {
     /// The instance that it answers.
     pub instance: Instance,

@@ -2,8 +2,8 @@
 #![tactic(auto)]
 
 mod head;
-pub mod write;
+mod write;
 
 pub use head::Head;
 pub use siting_definitions::Word;
-
+pub use write::write_answer;

@@ -1,19 +1,85 @@
-//! Writing an answer.
+//! Writing the text of an answer.
 
 ghost use Rattle.std.specs.Prelude.{◌≡◌, pos, [], ◌∷◌, ◌++◌, map, flat_map, codes, is_some};
 ghost use Rattle.std.specs.Fmt.{signed_decimal};
 ghost use Rattle.port_io.specs.Output.{IsOpen, Put, sink_of, stage};
 ghost use Rattle.siting_definitions.specs.Line.{line_text, text_of};
 ghost use Rattle.siting_definitions.specs.AnswerText.{number_line, optional_line, site_line, cost_line, word_field, root_line, mark_line};
-ghost use Rattle.discard_log.specs.declared.node.Node.{Node};
+ghost use Rattle.std.specs.List.{list_any};
+ghost use Rattle.siting_definitions.specs.Instance.{DemandPt as Point};
+ghost use Rattle.siting_definitions.specs.Answer.{Answer};
+ghost use Rattle.siting_definitions.specs.InstanceText.{version_field};
+ghost use Rattle.siting_definitions.specs.AnswerText.{head_lines, answer_text};
 ghost use Rattle.certificate.specs.Inside.{best_of};
+ghost use Rattle.certificate.specs.Written.{node_text, mark_of};
 
 use crate::head::Head;
-use discard_log::{Mark, Node};
+use discard_log::{Mark, Node, NodeList};
 use dyadic_square::Square;
+use instance_text::write_instance;
 use port_io::{Out, Piece, Sink, WriteFault};
-use site_model::Site;
+use site_model::{DemandPt, Instance, Site};
 use siting_definitions::Word;
+
+/// Puts the canonical text of an answer: of this head, and of the nodes of its tree in preorder.
+pub fn write_answer<K: Sink>(head: &Head, nodes: &NodeList, out: &mut Out<K>) -> Result<(), WriteFault>
+    requires { IsOpen out.old }
+    ensures same { sink_of out.new ≡ sink_of out.old }
+    ensures put { Put (stage K.room K.taken K.faults out.old) (stage K.room K.taken K.faults out.new)
+        (answer_text (record { head = head.now; marks = map mark_of nodes.now })) result }
+{
+    write_first_line(&head.instance, out)?;
+    write_instance(&head.instance, out)?;
+    write_head_lines(head, out)?;
+    write_marks(nodes.nodes(), out)?;
+    out.put(b"end\n")
+}
+
+/// Writes the first line, which says the version of the text.
+fn write_first_line<K: Sink>(instance: &Instance, out: &mut Out<K>) -> Result<(), WriteFault>
+    requires { IsOpen out.old }
+    ensures same { sink_of out.new ≡ sink_of out.old }
+    ensures put { Put (stage K.room K.taken K.faults out.old) (stage K.room K.taken K.faults out.new)
+        (line_text (codes "siting" ∷ codes "answer" ∷ version_field instance.now ∷ [])) result }
+{
+    out.put_pieces(&[
+        Piece::Text(b"siting answer "),
+        Piece::Text(version_bytes(instance)),
+        Piece::Text(b"\n"),
+    ])
+}
+
+/// The version of the texts of an instance.
+fn version_bytes(instance: &Instance) -> &'static [u8]
+    ensures { result.now ≡ version_field instance.now }
+{
+    if has_cutoff(instance.points()) {
+        b"2"
+    } else {
+        b"1"
+    }
+}
+
+/// Whether some point has a cutoff.
+fn has_cutoff(points: &[DemandPt]) -> bool
+    ensures { result ≡ list_any (λ (d : Point). is_some d.cutoff) points.now }
+{
+    points.iter().any(|point| point.cutoff.is_some())
+}
+
+/// Writes the lines of the head that come after the instance's.
+fn write_head_lines<K: Sink>(head: &Head, out: &mut Out<K>) -> Result<(), WriteFault>
+    requires { IsOpen out.old }
+    ensures same { sink_of out.new ≡ sink_of out.old }
+    ensures put { Put (stage K.room K.taken K.faults out.old) (stage K.room K.taken K.faults out.new)
+        (text_of (head_lines head.now)) result }
+{
+    write_limits(head.gap, head.budget, head.pool, out)?;
+    write_best(head.site, head.cost, out)?;
+    write_bound(head.bound, out)?;
+    write_outcome(head.word, head.open_count, head.leases, out)?;
+    write_root(head.instance.root(), out)
+}
 
 /// Writes the gap, the budget and the pool.
 fn write_limits<K: Sink>(gap: i64, budget: u32, pool: u32, out: &mut Out<K>) -> Result<(), WriteFault>
@@ -33,6 +99,38 @@ fn write_limits<K: Sink>(gap: i64, budget: u32, pool: u32, out: &mut Out<K>) -> 
     ])
 }
 
+/// Writes a site.
+fn write_site<K: Sink>(site: Site, out: &mut Out<K>) -> Result<(), WriteFault>
+    requires { IsOpen out.old }
+    ensures same { sink_of out.new ≡ sink_of out.old }
+    ensures put { Put (stage K.room K.taken K.faults out.old) (stage K.room K.taken K.faults out.new)
+        (line_text (codes "site" ∷ signed_decimal site.x ∷ signed_decimal site.y ∷ [])) result }
+{
+    out.put_pieces(&[
+        Piece::Text(b"site "),
+        Piece::Number(site.x),
+        Piece::Text(b" "),
+        Piece::Number(site.y),
+        Piece::Text(b"\n"),
+    ])
+}
+
+/// Writes the lower and the upper cost of a site.
+fn write_cost<K: Sink>(lower: i64, upper: i64, out: &mut Out<K>) -> Result<(), WriteFault>
+    requires { IsOpen out.old }
+    ensures same { sink_of out.new ≡ sink_of out.old }
+    ensures put { Put (stage K.room K.taken K.faults out.old) (stage K.room K.taken K.faults out.new)
+        (line_text (codes "cost" ∷ signed_decimal lower ∷ signed_decimal upper ∷ [])) result }
+{
+    out.put_pieces(&[
+        Piece::Text(b"cost "),
+        Piece::Number(lower),
+        Piece::Text(b" "),
+        Piece::Number(upper),
+        Piece::Text(b"\n"),
+    ])
+}
+
 /// Writes a site and its costs.
 fn write_priced<K: Sink>(site: Site, lower: i64, upper: i64, out: &mut Out<K>) -> Result<(), WriteFault>
     requires { IsOpen out.old }
@@ -42,17 +140,8 @@ fn write_priced<K: Sink>(site: Site, lower: i64, upper: i64, out: &mut Out<K>) -
             ∷ (codes "cost" ∷ signed_decimal lower ∷ signed_decimal upper ∷ [])
             ∷ [])) result }
 {
-    out.put_pieces(&[
-        Piece::Text(b"site "),
-        Piece::Number(site.x),
-        Piece::Text(b" "),
-        Piece::Number(site.y),
-        Piece::Text(b"\ncost "),
-        Piece::Number(lower),
-        Piece::Text(b" "),
-        Piece::Number(upper),
-        Piece::Text(b"\n"),
-    ])
+    write_site(site, out)?;
+    write_cost(lower, upper, out)
 }
 
 /// Writes the site and its costs, where there is one.
@@ -174,7 +263,7 @@ fn write_marks<K: Sink>(nodes: &[Node], out: &mut Out<K>) -> Result<(), WriteFau
     requires { IsOpen out.old }
     ensures same { sink_of out.new ≡ sink_of out.old }
     ensures put { Put (stage K.room K.taken K.faults out.old) (stage K.room K.taken K.faults out.new)
-        (flat_map (λ (n : Node). line_text (mark_line n.mark)) nodes.now) result }
+        (flat_map node_text nodes.now) result }
 {
     for node in nodes {
         write_mark(node.mark, out)?;
