@@ -1,2 +1,3 @@
 pub mod ClaimsLemmas
-pub mod Written
+mod TextLemmas
+mod Written
