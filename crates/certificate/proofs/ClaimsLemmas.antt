@@ -1,10 +1,9 @@
 -- A valid answer claims no more than holds: its bound is at most the cost of every permitted point, and its word is `solved`
 -- exactly where the upper cost is within the gap of the bound. The proof goes once along the marks.
-use Rattle.std.proofs.Common.{◌≡◌, ℕ, zero, suc, ◌+◌, ◌<◌, ◌≤◌, ◌==◌, ℤ, pos, ◌+ℤ◌, ◌-ℤ◌, ◌≤ℤ◌, ◌<ℤ◌, Bool, true, false, cond, not, List, [], ◌∷◌, Option, None, Some, refl, sym, ap, ◌∙◌, subst, ◌⊎◌, inl, inr, ⊎_elim, arith}
-use Rattle.std.proofs.lemmas.Bool.{cases_Bool, cond-true, cond-false, true≢false, false≢true, eq-eqb, eqb-true}
-use Rattle.std.proofs.lemmas.List.Sums.{sum_by-cons}
+use Rattle.std.proofs.Common.{◌≡◌, ℕ, ◌+◌, ◌<◌, ◌==◌, ℤ, ◌+ℤ◌, ◌≤ℤ◌, Bool, true, false, cond, List, [], ◌∷◌, Option, None, Some, refl, sym, ap, ◌∙◌, subst, ◌⊎◌, inl, inr, ⊎_elim, arith}
+use Rattle.std.proofs.lemmas.Bool.{cases_Bool, cond-true, cond-false, true≢false, false≢true, eqb-true}
 use Rattle.std.proofs.lemmas.Int.{clamps}
-use Rattle.std.specs.Prelude.{⊤, IsTrue, ◌↔◌, MatchOption, int_le, option_map, is_some, count_by}
+use Rattle.std.specs.Prelude.{⊤, IsTrue, MatchOption, int_le, is_some}
 use Rattle.std.specs.Int.{int_min}
 use borrow.Author.Differences.{ints}
 use Rattle.siting_definitions.specs.declared.Mark.{Mark}
@@ -12,16 +11,16 @@ use Rattle.siting_definitions.specs.declared.Mark.TheVariants.{Split, Shut, Boun
 use Rattle.siting_definitions.specs.declared.Word.{Word}
 use Rattle.siting_definitions.specs.declared.Word.TheVariants.{Solved, PoolFull, Budget, Floor, Empty}
 use Rattle.siting_definitions.specs.Point.{Pt, Point, point_of}
-use Rattle.siting_definitions.specs.Instance.{Instance, IsInstance}
+use Rattle.siting_definitions.specs.Instance.{Instance}
 use Rattle.siting_definitions.specs.Permitted.{permits}
 use Rattle.siting_definitions.specs.Cost.{CostAtLeast, CostAtMost}
 use Rattle.siting_definitions.specs.Square.{Square, holds}
 use Rattle.siting_definitions.specs.Bounds.{fine_of, lower_of, upper_of}
 use Rattle.siting_definitions.specs.Excluded.{is_excluded}
 use Rattle.siting_definitions.specs.Sites.{root_of}
-use Rattle.siting_definitions.specs.Tree.{Tree, TreeSquare, Fits, preorder}
-use Rattle.siting_definitions.specs.Marks.{IsNoneOrAtLeast, reaches, leaf_mark, SplitFits, MarkFits, MarksFit, AreMarks, lesser, bound_of, least_of, is_left, is_floor, Tally, tally_of}
-use Rattle.siting_definitions.specs.Answer.{Best, Head, Answer, upper_cost, is_solved, is_empty, is_floored, is_stopped, has_word, IsPriced, IsValid}
+use Rattle.siting_definitions.specs.Tree.{TreeSquare, preorder}
+use Rattle.siting_definitions.specs.Marks.{IsNoneOrAtLeast, reaches, leaf_mark, SplitFits, MarkFits, MarksFit, lesser, bound_of, least_of, is_left, is_floor, Tally, tally_of}
+use Rattle.siting_definitions.specs.Answer.{Best, Answer, upper_cost, is_solved, has_word, IsPriced, IsValid}
 use Rattle.siting_definitions.specs.Claims.{IsBound, IsNowhere, IsEnclosed, IsWithinGap, Claims}
 use Rattle.siting_definitions.proofs.Integers.{le-int_le, int_le-true, int_le-false, le_refl_ℤ}
 use Rattle.siting_definitions.proofs.CostLemmas.{CostAtLeast-less}
@@ -64,7 +63,7 @@ open_bound : (i : Instance) (gap : ℤ) (u : Option ℤ) (s : Square) → is_exc
 open_bound i gap u s h =
     ⊎_elim (λ k. ap bound_of (bounded_leaf i gap u s h k))
     (λ k.
-        ⊎_elim (λ l. ap bound_of (floor_leaf i gap u s h k l)) (λ l. ap bound_of (left_leaf i gap u s h k l)) (cases_Bool (s.level == 0)))
+    ⊎_elim (λ l. ap bound_of (floor_leaf i gap u s h k l)) (λ l. ap bound_of (left_leaf i gap u s h k l)) (cases_Bool (s.level == 0)))
     (cases_Bool (reaches u (fine_of i s +ℤ gap)))
 
 -- ---- the least bound is at most the cost of a point that a leaf holds
@@ -265,9 +264,9 @@ claims a h valid =
     let fits = valid.tree.1.1 in
     let counts : total settled a.marks ≡ (tally_of a.marks).open_leaves + (tally_of a.marks).floor_leaves = unsettled-tally a.marks in
     let found : (p : Point) → IsTrue (permits i p) → IsReached i p (least_of a.marks) =
-        λ p said.
-            let e : total (held p) (preorder t (root_of i)) ≡ 1 = total-held t (root_of i) p valid.tree.1.0 ∙ ap once (h.root p said) in
-            reached i p gap u (preorder t (root_of i)) a.marks (h.bounded p said) fits (omega (arith, e)) in
+    λ p said.
+    let e : total (held p) (preorder t (root_of i)) ≡ 1 = total-held t (root_of i) p valid.tree.1.0 ∙ ap once (h.root p said) in
+    reached i p gap u (preorder t (root_of i)) a.marks (h.bounded p said) fits (omega (arith, e)) in
     record {
       site = site_claim i a.head.best h valid.head.best;
       bound = subst (λ (o : Option ℤ). MatchOption o (IsNowhere i) (IsBound i)) (sym valid.end_fits.bound) (bound_claim i (least_of a.marks) found);

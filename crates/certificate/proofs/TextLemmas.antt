@@ -1,9 +1,9 @@
 -- No text is that of two answers: its lines are lines of words, and each field is read back.
-use Rattle.std.proofs.Common.{◌≡◌, ℕ, ◌^◌, ◌<◌, ◌≤◌, ◌==◌, Bool, true, false, cond, ℤ, pos, negsuc, ◌≤ℤ◌, List, [], ◌∷◌, ◌++◌, map, codes, Option, Some, None, refl, sym, ap, ◌∙◌, ◌⊎◌, inl, inr, lit<, arith, w64}
+use Rattle.std.proofs.Common.{◌≡◌, ℕ, ◌^◌, ◌<◌, ◌≤◌, ◌==◌, Bool, true, false, cond, ℤ, pos, negsuc, ◌≤ℤ◌, List, [], ◌∷◌, ◌++◌, map, codes, Option, Some, None, refl, sym, ap, ◌∙◌, ◌⊎◌, inl, inr, arith, w64}
 use Rattle.std.specs.Prelude.{unsigned_abs, FitsSigned, All, MatchOption, ⊤}
 use Rattle.std.specs.List.{list_all}
 use Rattle.std.specs.Fmt.{signed_decimal}
-use Rattle.std.proofs.lemmas.Bool.{cases_Bool, cond-true, cond-false, and_from, and_parts}
+use Rattle.std.proofs.lemmas.Bool.{cases_Bool, cond-true, cond-false, and_from}
 use Rattle.std.proofs.lemmas.List.{append_cancel_right}
 use Rattle.std.proofs.lemmas.List.Folds.{list_all-append}
 use Rattle.std.proofs.lemmas.List.Elements.{All-head, All-tail}
@@ -12,14 +12,13 @@ use Rattle.siting_definitions.specs.declared.Mark.{Mark}
 use Rattle.siting_definitions.specs.declared.Mark.TheVariants.{Split, Shut, Bounded, Floor as FloorMark, Left}
 use Rattle.siting_definitions.specs.declared.Word.{Word}
 use Rattle.siting_definitions.specs.declared.Word.TheVariants.{Solved, PoolFull, Budget, Floor, Empty}
-use Rattle.siting_definitions.specs.Point.{Place, Pt}
-use Rattle.siting_definitions.specs.Instance.{DemandPt, Instance, IsInstance}
+use Rattle.siting_definitions.specs.Instance.{Instance}
 use Rattle.siting_definitions.specs.Square.{Square}
 use Rattle.siting_definitions.specs.Sites.{root_of}
-use Rattle.siting_definitions.specs.Answer.{Best, Head, Answer, IsBest, IsHead, IsMark, IsSite}
+use Rattle.siting_definitions.specs.Answer.{Best, Head, Answer, IsBest, IsHead, IsMark}
 use Rattle.siting_definitions.specs.Line.{text_of}
-use Rattle.siting_definitions.specs.InstanceText.{has_cutoff, version_field, kind_field, point_line, polygon_line, instance_lines, instance_text}
-use Rattle.siting_definitions.specs.AnswerText.{number_line, optional_line, site_line, cost_line, word_field, root_line, mark_line, head_lines, answer_lines, answer_text}
+use Rattle.siting_definitions.specs.InstanceText.{has_cutoff, version_field, point_line, polygon_line, instance_lines, instance_text}
+use Rattle.siting_definitions.specs.AnswerText.{optional_line, site_line, cost_line, word_field, root_line, mark_line, head_lines, answer_lines, answer_text}
 use Rattle.text_lines.specs.Numbers.{number_of}
 use Rattle.text_lines.specs.Words.{is_word, are_words, AreWords}
 use Rattle.text_lines.proofs.ReadBack.{text_of_injective}
@@ -93,8 +92,8 @@ head_words h rest words =
 answer_words : (a : Answer) → AreWords (answer_lines a)
 answer_words a = record {
   test = and_from _ _ (three_words (codes "siting") (codes "answer") (version_field a.head.instance) refl refl (version_words (has_cutoff a.head.instance)))
-    (list_all-append are_words (instance_lines a.head.instance) (head_lines a.head ++ (map mark_line a.marks ++ (codes "end" ∷ []) ∷ []))
-    ∙ and_from _ _ (AreWords-instance_lines a.head.instance).test (head_words a.head (map mark_line a.marks ++ (codes "end" ∷ []) ∷ []) (marks_words a.marks)));
+      (list_all-append are_words (instance_lines a.head.instance) (head_lines a.head ++ (map mark_line a.marks ++ (codes "end" ∷ []) ∷ []))
+      ∙ and_from _ _ (AreWords-instance_lines a.head.instance).test (head_words a.head (map mark_line a.marks ++ (codes "end" ∷ []) ∷ []) (marks_words a.marks)));
 }
 
 -- ---- where the lines of the instance end
@@ -283,16 +282,18 @@ same_head h k in_h in_k instance r s same =
     let rest : r ≡ s = cc in
     let best : h.best ≡ k.best = same_best h.best k.best in_h.best in_k.best site cost in
     let bound' : h.bound ≡ k.bound = sym (bound_again h.bound in_h.bound) ∙ ap line_number bound ∙ bound_again k.bound in_k.bound in
-    let word' : h.word ≡ k.word = sym (word_again h.word) ∙ ap word_back word ∙ word_again k.word in
-    (along_nine h.instance k.instance h.gap k.gap h.budget k.budget h.pool k.pool h.best k.best h.bound k.bound h.word k.word h.open_count k.open_count h.leases k.leases instance
-      (same_gap h.gap k.gap (abs_gap h.gap in_h.gap_least in_h.gap_most) (abs_gap k.gap in_k.gap_least in_k.gap_most) gap)
-      (same_count h.budget k.budget in_h.budget in_k.budget budget)
-      (same_count h.pool k.pool in_h.pool_most in_k.pool_most pool)
-      best
-      bound'
-      word'
-      (same_count h.open_count k.open_count in_h.open_count in_k.open_count opened)
-      (same_count h.leases k.leases in_h.leases in_k.leases leases), rest)
+    let word' : h.word ≡ k.word = sym (word_again h.word) ∙ ap word_back word ∙ word_again k.word in (
+      along_nine h.instance k.instance h.gap k.gap h.budget k.budget h.pool k.pool h.best k.best h.bound k.bound h.word k.word h.open_count k.open_count h.leases k.leases instance
+          (same_gap h.gap k.gap (abs_gap h.gap in_h.gap_least in_h.gap_most) (abs_gap k.gap in_k.gap_least in_k.gap_most) gap)
+          (same_count h.budget k.budget in_h.budget in_k.budget budget)
+          (same_count h.pool k.pool in_h.pool_most in_k.pool_most pool)
+          best
+          bound'
+          word'
+          (same_count h.open_count k.open_count in_h.open_count in_k.open_count opened)
+          (same_count h.leases k.leases in_h.leases in_k.leases leases),
+      rest,
+    )
 
 abbrev tail_of : List (List (List ℕ)) → List (List (List ℕ))
 tail_of [] = []

@@ -1,12 +1,11 @@
 -- The text of an answer, part by part.
-use Rattle.std.proofs.Common.{◌≡◌, ℕ, List, [], ◌∷◌, ◌++◌, map, codes, refl, sym, ap, ◌∙◌, append_assoc}
+use Rattle.std.proofs.Common.{◌≡◌, ℕ, List, [], ◌∷◌, ◌++◌, map, codes, refl, ap, ◌∙◌}
 use Rattle.std.specs.List.{flat_map}
 use Rattle.std.specs.Fmt.{signed_decimal}
 use Rattle.std.proofs.lemmas.List.{append-nil}
-use Rattle.std.proofs.lemmas.List.Folds.{flat_map-map}
 use Rattle.std.proofs.lemmas.List.Concat.{flat_map-append}
 use Rattle.siting_definitions.specs.Sites.{root_of}
-use Rattle.siting_definitions.specs.Answer.{Best, Head, Answer}
+use Rattle.siting_definitions.specs.Answer.{Head}
 use Rattle.siting_definitions.specs.Line.{line_text, text_of}
 use Rattle.siting_definitions.specs.InstanceText.{version_field, instance_lines, instance_text}
 use Rattle.siting_definitions.specs.AnswerText.{number_line, optional_line, site_line, cost_line, word_field, root_line, mark_line, head_lines, answer_text}

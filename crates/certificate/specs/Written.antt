@@ -1,8 +1,6 @@
 -- The parts of the text of an answer.
-use Rattle.std.specs.Prelude.{ℕ, List, [], ◌∷◌, codes}
-use Rattle.std.specs.Fmt.{signed_decimal}
+use Rattle.std.specs.Prelude.{ℕ, List}
 use Rattle.siting_definitions.specs.declared.Mark.{Mark}
-use Rattle.siting_definitions.specs.Answer.{Head}
 use Rattle.siting_definitions.specs.Line.{line_text}
 use Rattle.siting_definitions.specs.AnswerText.{mark_line}
 use Rattle.discard_log.specs.declared.node.Node.{Node}

@@ -1,15 +1,13 @@
 //! Writing the text of an answer.
 
-ghost use Rattle.std.specs.Prelude.{◌≡◌, pos, [], ◌∷◌, ◌++◌, map, flat_map, codes, is_some};
+ghost use Rattle.std.specs.Prelude.{◌≡◌, [], ◌∷◌, ◌++◌, map, flat_map, codes, is_some};
 ghost use Rattle.std.specs.Fmt.{signed_decimal};
 ghost use Rattle.port_io.specs.Output.{IsOpen, Put, sink_of, stage};
 ghost use Rattle.siting_definitions.specs.Line.{line_text, text_of};
-ghost use Rattle.siting_definitions.specs.AnswerText.{number_line, optional_line, site_line, cost_line, word_field, root_line, mark_line};
+ghost use Rattle.siting_definitions.specs.AnswerText.{number_line, optional_line, site_line, cost_line, word_field, root_line, mark_line, head_lines, answer_text};
 ghost use Rattle.std.specs.List.{list_any};
 ghost use Rattle.siting_definitions.specs.Instance.{DemandPt as Point};
-ghost use Rattle.siting_definitions.specs.Answer.{Answer};
 ghost use Rattle.siting_definitions.specs.InstanceText.{version_field};
-ghost use Rattle.siting_definitions.specs.AnswerText.{head_lines, answer_text};
 ghost use Rattle.certificate.specs.Inside.{best_of};
 ghost use Rattle.certificate.specs.Written.{node_text, mark_of};
 
@@ -22,7 +20,11 @@ use site_model::{DemandPt, Instance, Site};
 use siting_definitions::Word;
 
 /// Puts the canonical text of an answer: of this head, and of the nodes of its tree in preorder.
-pub fn write_answer<K: Sink>(head: &Head, nodes: &NodeList, out: &mut Out<K>) -> Result<(), WriteFault>
+pub fn write_answer<K: Sink>(
+    head: &Head,
+    nodes: &NodeList,
+    out: &mut Out<K>,
+) -> Result<(), WriteFault>
     requires { IsOpen out.old }
     ensures same { sink_of out.new ≡ sink_of out.old }
     ensures put { Put (stage K.room K.taken K.faults out.old) (stage K.room K.taken K.faults out.new)
@@ -82,7 +84,12 @@ fn write_head_lines<K: Sink>(head: &Head, out: &mut Out<K>) -> Result<(), WriteF
 }
 
 /// Writes the gap, the budget and the pool.
-fn write_limits<K: Sink>(gap: i64, budget: u32, pool: u32, out: &mut Out<K>) -> Result<(), WriteFault>
+fn write_limits<K: Sink>(
+    gap: i64,
+    budget: u32,
+    pool: u32,
+    out: &mut Out<K>,
+) -> Result<(), WriteFault>
     requires { IsOpen out.old }
     ensures same { sink_of out.new ≡ sink_of out.old }
     ensures put { Put (stage K.room K.taken K.faults out.old) (stage K.room K.taken K.faults out.new)
@@ -132,20 +139,29 @@ fn write_cost<K: Sink>(lower: i64, upper: i64, out: &mut Out<K>) -> Result<(), W
 }
 
 /// Writes a site and its costs.
-fn write_priced<K: Sink>(site: Site, lower: i64, upper: i64, out: &mut Out<K>) -> Result<(), WriteFault>
+fn write_priced<K: Sink>(
+    site: Site,
+    lower: i64,
+    upper: i64,
+    out: &mut Out<K>,
+) -> Result<(), WriteFault>
     requires { IsOpen out.old }
     ensures same { sink_of out.new ≡ sink_of out.old }
     ensures put { Put (stage K.room K.taken K.faults out.old) (stage K.room K.taken K.faults out.new)
         (text_of ((codes "site" ∷ signed_decimal site.x ∷ signed_decimal site.y ∷ [])
-            ∷ (codes "cost" ∷ signed_decimal lower ∷ signed_decimal upper ∷ [])
-            ∷ [])) result }
+        ∷ (codes "cost" ∷ signed_decimal lower ∷ signed_decimal upper ∷ [])
+        ∷ [])) result }
 {
     write_site(site, out)?;
     write_cost(lower, upper, out)
 }
 
 /// Writes the site and its costs, where there is one.
-fn write_best<K: Sink>(site: Option<Site>, cost: Option<(i64, i64)>, out: &mut Out<K>) -> Result<(), WriteFault>
+fn write_best<K: Sink>(
+    site: Option<Site>,
+    cost: Option<(i64, i64)>,
+    out: &mut Out<K>,
+) -> Result<(), WriteFault>
     requires { IsOpen out.old }
     ensures same { sink_of out.new ≡ sink_of out.old }
     ensures put { Put (stage K.room K.taken K.faults out.old) (stage K.room K.taken K.faults out.new)
@@ -169,11 +185,7 @@ fn write_bound<K: Sink>(bound: Option<i64>, out: &mut Out<K>) -> Result<(), Writ
 {
     match bound {
         None => out.put(b"bound none\n"),
-        Some(b) => out.put_pieces(&[
-            Piece::Text(b"bound "),
-            Piece::Number(b),
-            Piece::Text(b"\n"),
-        ]),
+        Some(b) => out.put_pieces(&[Piece::Text(b"bound "), Piece::Number(b), Piece::Text(b"\n")]),
     }
 }
 
@@ -191,7 +203,12 @@ fn word_bytes(word: Word) -> &'static [u8]
 }
 
 /// Writes the word, the open squares and the leases.
-fn write_outcome<K: Sink>(word: Word, open_count: u32, leases: u32, out: &mut Out<K>) -> Result<(), WriteFault>
+fn write_outcome<K: Sink>(
+    word: Word,
+    open_count: u32,
+    leases: u32,
+    out: &mut Out<K>,
+) -> Result<(), WriteFault>
     requires { IsOpen out.old }
     ensures same { sink_of out.new ≡ sink_of out.old }
     ensures put { Put (stage K.room K.taken K.faults out.old) (stage K.room K.taken K.faults out.new)

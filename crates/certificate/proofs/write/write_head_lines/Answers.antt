@@ -1,4 +1,4 @@
-use Rattle.std.proofs.Common.{◌≡◌, refl, rules, FitsSigned, w64}
+use Rattle.std.proofs.Common.{refl, rules, FitsSigned, w64}
 use Rattle.std.proofs.lemmas.Int.{to_z-of_z}
 use Rattle.port_io.proofs.PutLemmas.{Put-then, Put-stop}
 use Rattle.certificate.proofs.Written.{head_text-parts}
