@@ -1,9 +1,9 @@
 -- A convex polygon, each vertex to the left of each edge, stands counter-clockwise already.
-use Rattle.std.proofs.Common.{◌≡◌, ◌≢◌, ℕ, zero, suc, ◌+◌, ◌-◌, ◌*◌, ◌<◌, ◌≤◌, Bool, true, false, cond, ℤ, pos, ◌+ℤ◌, ◌-ℤ◌, ◌*ℤ◌, ◌≤ℤ◌, ◌<ℤ◌, List, [], ◌∷◌, ◌++◌, length, get_or, take, drop, map, zip, refl, sym, ap, ◌∙◌, lit≤, subst, arith}
+use Rattle.std.proofs.Common.{◌≡◌, ℕ, zero, suc, ◌<◌, false, ℤ, pos, ◌+ℤ◌, ◌-ℤ◌, ◌*ℤ◌, ◌≤ℤ◌, ◌<ℤ◌, List, [], ◌∷◌, ◌++◌, length, get_or, drop, map, zip, refl, lit≤, subst, arith}
 use Rattle.std.specs.Prelude.{fold, int_lt}
 use Rattle.std.proofs.lemmas.Bool.Decides.{nat_tests}
 use Rattle.siting_definitions.specs.Point.{Place, grid, point_of, side}
-use Rattle.siting_definitions.specs.Polygon.{origin, vertex, next_of, edges, IsConvex, doubled_area, turned}
+use Rattle.siting_definitions.specs.Polygon.{origin, vertex, next_of, IsConvex, doubled_area, turned}
 use Rattle.siting_definitions.proofs.Integers.{diff, diff-eq, as_diff, diffs, le_of_mul_le_ℤ}
 use borrow.Author.Differences.{up, down, ints}
 
@@ -88,9 +88,10 @@ all_left : (vs : List Place) → IsConvex vs → (i : ℕ) (rest : List Place) �
 unfolding AllLeft
 all_left vs convex i [] inside is = turn_at_end (vertex vs i) (vertex vs 0)
 all_left vs convex i (r ∷ rest) inside is =
-    let more = after_place vs i origin r rest is in
-    (subst (λ (p : Place). pos 0 ≤ℤ turn (vertex vs i) p (vertex vs 0)) more.1 (edge_left vs convex i more.0),
-    subst (λ (p : Place). AllLeft (vertex vs 0) p rest (vertex vs 0)) more.1 (all_left vs convex (suc i) rest more.0 more.2))
+    let more = after_place vs i origin r rest is in (
+      subst (λ (p : Place). pos 0 ≤ℤ turn (vertex vs i) p (vertex vs 0)) more.1 (edge_left vs convex i more.0),
+      subst (λ (p : Place). AllLeft (vertex vs 0) p rest (vertex vs 0)) more.1 (all_left vs convex (suc i) rest more.0 more.2),
+    )
 
 -- the area of a convex polygon is not below 0
 pub doubled_area-convex : (vs : List Place) → IsConvex vs → pos 0 ≤ℤ doubled_area vs

@@ -1,6 +1,6 @@
 -- The test of convexity tells convexity.
-use Rattle.std.proofs.Common.{◌≡◌, ◌≢◌, ℕ, ◌<◌, Bool, true, false, ◌||◌, ℤ, pos, List, length, refl, sym, ◌∙◌, arith}
-use Rattle.std.specs.Prelude.{◌==◌, int_lt, IsTrue, ◌<ℤ◌, ◌↔◌}
+use Rattle.std.proofs.Common.{◌≢◌, ℕ, ◌<◌, Bool, true, false, ◌||◌, ℤ, pos, List, length, refl, arith}
+use Rattle.std.specs.Prelude.{int_lt, IsTrue, ◌<ℤ◌, ◌↔◌}
 use Rattle.std.specs.Bool.{Decides}
 use Rattle.std.proofs.lemmas.Bool.{false≢true}
 use Rattle.std.proofs.lemmas.Bool.Decides.{Decides-eqb, Decides-below_and}
@@ -34,6 +34,7 @@ Decides-edges vs =
 
 pub is_convex-iff : (vs : List Place) → IsTrue (is_convex vs) ↔ IsConvex vs
 is_convex-iff vs =
-    let told = Decides-edges vs in
-    ((λ h i j edge within not_start not_end. told.0 h i edge j within not_start not_end),
-    (λ h. told.1 (λ i edge j within not_start not_end. h i j edge within not_start not_end)))
+    let told = Decides-edges vs in (
+      (λ h i j edge within not_start not_end. told.0 h i edge j within not_start not_end),
+      (λ h. told.1 (λ i edge j within not_start not_end. h i j edge within not_start not_end)),
+    )

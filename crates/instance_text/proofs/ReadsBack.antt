@@ -1,30 +1,25 @@
 -- The canonical text of a lawful instance says that instance.
-use Rattle.std.proofs.Common.{◌≡◌, ◌≢◌, ℕ, zero, suc, ◌+◌, ◌-◌, ◌*◌, ◌%◌, ◌^◌, ◌<◌, ◌≤◌, eqb, ltb, leb, Bool, true, false, cond, ◌&&◌, ◌||◌, ℤ, pos, negsuc, ◌≤ℤ◌, List, [], ◌∷◌, ◌++◌, length, map, codes, Option, Some, None, Result, Ok, Err, refl, sym, ap, ◌∙◌, subst, lit<, arith, append_assoc}
+use Rattle.std.proofs.Common.{◌≡◌, ◌≢◌, ℕ, zero, suc, ◌+◌, ◌*◌, ◌%◌, ◌^◌, ◌<◌, ◌≤◌, eqb, Bool, true, false, cond, ℤ, pos, negsuc, ◌≤ℤ◌, List, [], ◌∷◌, ◌++◌, length, map, codes, Option, Some, None, Result, Ok, refl, sym, ap, ◌∙◌, lit<, arith, append_assoc}
 use Rattle.std.specs.Prelude.{unsigned_abs, int_le, is_some, All, MatchOption, ⊤}
 use Rattle.std.specs.List.{list_all, list_any, flat_map}
 use Rattle.std.specs.Fmt.{signed_decimal}
-use Rattle.std.proofs.lemmas.Bool.{and_parts, and_from, or_left, or_right, ne_eqb, eq-eqb, le-leb, lt-ltb, le-ltb, lt-leb, cond_both}
+use Rattle.std.proofs.lemmas.Bool.{and_from, or_left, or_right, ne_eqb, eq-eqb, le-leb, le-ltb, lt-leb}
 use Rattle.std.proofs.lemmas.List.{append-nil, length-append}
 use Rattle.std.proofs.lemmas.List.Sums.{sum_by-append}
-use Rattle.std.proofs.lemmas.List.Folds.{list_all-append}
 use Rattle.std.proofs.lemmas.List.Elements.{All-head, All-tail}
 use Rattle.siting_definitions.specs.declared.Kind.{Kind}
 use Rattle.siting_definitions.specs.declared.Kind.TheVariants.{Sum, Max}
 use Rattle.siting_definitions.specs.Point.{Place}
-use Rattle.siting_definitions.specs.Polygon.{turned}
 use Rattle.siting_definitions.specs.Instance.{DemandPt, Instance, weight, IsPlace, IsDemandPt, IsPolygon, IsInstance}
-use Rattle.siting_definitions.specs.InstanceText.{has_cutoff, version_field, kind_field, cutoff_fields, point_line, polygon_line, instance_lines, instance_text}
-use Rattle.text_lines.specs.declared.numbers.Within.{Within}
-use Rattle.text_lines.specs.declared.numbers.Within.TheVariants.{NotANumber, Beyond, Value}
+use Rattle.siting_definitions.specs.InstanceText.{has_cutoff, kind_field, cutoff_fields, point_line, polygon_line, instance_lines, instance_text}
+use Rattle.text_lines.specs.declared.numbers.Within.TheVariants.{Value}
 use Rattle.text_lines.specs.Numbers.{number_of, within}
-use Rattle.text_lines.specs.Words.{is_word, are_words, AreWords, rows_of}
+use Rattle.text_lines.specs.Words.{is_word, are_words, AreWords}
 use Rattle.text_lines.proofs.ReadBack.{rows_of-text_of}
 use Rattle.text_lines.proofs.NumbersBack.{is_word-signed_decimal, number_of-signed_decimal}
 use Rattle.instance_text.specs.declared.faults.InstanceFault.{InstanceFault}
-use Rattle.instance_text.specs.declared.phase.Phase.{Phase}
-use Rattle.instance_text.specs.declared.phase.Phase.TheVariants.{Start, Body, Ended}
-use Rattle.instance_text.specs.Rows.{coordinate_of, weight_of, cutoff_of, point_row, is_number, is_in_range, number_in, are_numbers, are_coordinates, places_of, polygon_of, polygon_row}
-use Rattle.instance_text.specs.Convex.{is_convex}
+use Rattle.instance_text.specs.declared.phase.Phase.TheVariants.{Body}
+use Rattle.instance_text.specs.Rows.{coordinate_of, weight_of, cutoff_of, point_row, are_numbers, are_coordinates, places_of, polygon_of, polygon_row}
 use Rattle.instance_text.specs.Reading.{Found, nothing_found, take_row, take_line, read_rows, reading}
 use Rattle.instance_text.proofs.Convexity.{is_convex-iff}
 use Rattle.instance_text.proofs.Area.{turned-convex}
@@ -64,9 +59,9 @@ polygon_words word is vs = and_from _ _ is (places_words vs)
 pub AreWords-instance_lines : (i : Instance) → AreWords (instance_lines i)
 AreWords-instance_lines i = record {
   test = rw (header_words (has_cutoff i), kind_words i.kind)
-    (all_words point_line point_words i.points _
-    (all_words (polygon_line (codes "permit")) (polygon_words (codes "permit") refl) i.permitted _
-    (all_words (polygon_line (codes "forbid")) (polygon_words (codes "forbid") refl) i.forbidden _ refl)));
+      (all_words point_line point_words i.points _
+      (all_words (polygon_line (codes "permit")) (polygon_words (codes "permit") refl) i.permitted _
+      (all_words (polygon_line (codes "forbid")) (polygon_words (codes "forbid") refl) i.forbidden _ refl)));
 }
 
 -- ---- the fields of a line are read back

@@ -5,7 +5,7 @@ use Rattle.std.specs.Fmt.{signed_decimal}
 use Rattle.std.proofs.lemmas.List.Folds.{flat_map-map}
 use Rattle.std.proofs.lemmas.List.Concat.{flat_map-append}
 use Rattle.siting_definitions.specs.Point.{Place}
-use Rattle.siting_definitions.specs.Instance.{DemandPt, Instance}
+use Rattle.siting_definitions.specs.Instance.{Instance}
 use Rattle.siting_definitions.specs.Line.{line_text, text_of}
 use Rattle.siting_definitions.specs.InstanceText.{version_field, kind_field, point_line, polygon_line, instance_text}
 use Rattle.instance_text.specs.Written.{front_text, point_text, after_spaces, vertex_text, polygon_text}

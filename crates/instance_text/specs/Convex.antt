@@ -1,5 +1,5 @@
 -- A test of convexity.
-use Rattle.std.specs.Prelude.{ℕ, zero, suc, ◌==◌, Bool, true, ◌&&◌, ◌||◌, ℤ, pos, int_lt, List, length}
+use Rattle.std.specs.Prelude.{ℕ, zero, suc, ◌==◌, Bool, true, ◌&&◌, ◌||◌, pos, int_lt, List, length}
 use Rattle.siting_definitions.specs.Point.{Place, grid, point_of, side}
 use Rattle.siting_definitions.specs.Polygon.{vertex, next_of}
 

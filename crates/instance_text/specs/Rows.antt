@@ -1,5 +1,5 @@
 -- What a line of an instance says, by its fields after the first. A fault is told by its number.
-use Rattle.std.specs.Prelude.{ℕ, ◌%◌, ◌==◌, nat_lt, Bool, true, false, not, ◌&&◌, if◌then◌else◌, ℤ, pos, int_le, unsigned_abs, List, [], ◌∷◌, length, codes, Option, Some, None, is_some, Result, Ok, Err, ◌≤ℤ◌, ⊤}
+use Rattle.std.specs.Prelude.{ℕ, ◌%◌, ◌==◌, nat_lt, Bool, true, false, ◌&&◌, if◌then◌else◌, ℤ, pos, int_le, unsigned_abs, List, [], ◌∷◌, length, codes, Option, Some, None, Result, Ok, Err, ◌≤ℤ◌, ⊤}
 use Rattle.std.specs.List.{list_all}
 use Rattle.std.specs.Str.{bytes_eq}
 use Rattle.siting_definitions.specs.declared.Kind.{Kind}

@@ -5,11 +5,9 @@ ghost use Rattle.instance_text.specs.Laws.{TextReadsBack, TextsDiffer};
 /// The canonical text of an instance within the limits is an instance text of that instance, and so of no other.
 pub fn text_reads_back()
     ensures { TextReadsBack }
-{
-}
+{}
 
 /// Two instances within the limits that have the same canonical text are equal.
 pub fn texts_differ()
     ensures { TextsDiffer }
-{
-}
+{}

@@ -12,10 +12,13 @@ mod reading;
 mod write;
 
 pub use faults::{
-    AFTER_END, BAD_HEADER, BAD_LINE, BAD_NUMBER, InstanceError, InstanceFault, NO_END, NO_KIND, NO_PERMIT, NO_POINT,
-    NOT_CONVEX, OUT_OF_RANGE, TOO_FEW_VERTICES, TOO_MANY_POINTS, TOO_MANY_POLYGONS, TOO_MANY_VERTICES, TWO_KINDS,
-    WEIGHT_SUM, ZERO_WEIGHT,
+    AFTER_END, BAD_HEADER, BAD_LINE, BAD_NUMBER, InstanceError, InstanceFault, NO_END, NO_KIND,
+    NO_PERMIT, NO_POINT, NOT_CONVEX, OUT_OF_RANGE, TOO_FEW_VERTICES, TOO_MANY_POINTS,
+    TOO_MANY_POLYGONS, TOO_MANY_VERTICES, TWO_KINDS, WEIGHT_SUM, ZERO_WEIGHT,
 };
 pub use laws::{text_reads_back, texts_differ};
 pub use read::read_instance;
 pub use write::write_instance;
+
+#[cfg(test)]
+mod tests;

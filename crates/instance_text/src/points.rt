@@ -1,6 +1,6 @@
 //! The point and the kind of a line.
 
-ghost use Rattle.std.specs.Prelude.{◌≡◌, None, Option, ℤ, pos, ◌≢◌, ◌≤◌, ◌≤ℤ◌, unsigned_abs, MatchOption, ⊤, IfOk};
+ghost use Rattle.std.specs.Prelude.{◌≡◌, None, Option, ℤ, pos, ◌≢◌, ◌≤◌, ◌≤ℤ◌, unsigned_abs, MatchOption, ⊤};
 ghost use Rattle.siting_definitions.specs.Instance.{IsCoordinate, IsDemandPt};
 ghost use Rattle.text_lines.specs.Lines.{fields_of};
 ghost use Rattle.text_lines.specs.Numbers.{HasSize};
@@ -32,8 +32,7 @@ pub fn read_kind(fields: &[u8]) -> Result<Kind, u8>
 
 /// The point that the fields after `point` say, where `cutoffs` says whether a point may have a cutoff.
 pub fn read_point(cutoffs: bool, fields: &[u8]) -> Result<DemandPt, u8>
-    ensures value { result ≡ point_row cutoffs (fields_of fields.now) }
-    ensures point { IfOk result IsDemandPt }
+    ensures { result ≡ point_row cutoffs (fields_of fields.now) }
 {
     let Some((x, rest)) = next_field(fields) else {
         return Err(BAD_LINE);
@@ -62,8 +61,7 @@ fn cut_point_of(x: Within, y: Within, w: Within, cut: Within) -> Result<DemandPt
     requires y { HasSize 1000000 y }
     requires w { HasSize 16000000 w }
     requires cut { IsCutoff cut }
-    ensures value { result ≡ cut_point_from x y w cut }
-    ensures point { IfOk result IsDemandPt }
+    ensures { result ≡ cut_point_from x y w cut }
 {
     match cut {
         Within::NotANumber => Err(BAD_NUMBER),
@@ -79,21 +77,16 @@ fn point_of(x: Within, y: Within, w: Within, cut: Option<i32>) -> Result<DemandP
     requires y { HasSize 1000000 y }
     requires w { HasSize 16000000 w }
     requires cut { MatchOption cut ⊤ (λ c. (pos 1 ≤ℤ c) × (c ≤ℤ pos 4000000)) }
-    ensures value { result ≡ point_from x y w cut }
-    ensures point { IfOk result IsDemandPt }
+    ensures { result ≡ point_from x y w cut }
 {
     match (x, y, w) {
-        (Within::NotANumber, _, _) | (_, Within::NotANumber, _) | (_, _, Within::NotANumber) => Err(BAD_NUMBER),
+        (Within::NotANumber, _, _) | (_, Within::NotANumber, _) | (_, _, Within::NotANumber) => Err(
+            BAD_NUMBER,
+        ),
         (Within::Value(_), Within::Value(_), Within::Value(0)) => Err(ZERO_WEIGHT),
-        (Within::Value(x), Within::Value(y), Within::Value(w)) => Ok(demand_point(x as i32, y as i32, w, cut)),
+        (Within::Value(x), Within::Value(y), Within::Value(w)) => Ok(DemandPt::of(
+            x as i32, y as i32, w, cut,
+        )),
         _ => Err(OUT_OF_RANGE),
     }
-}
-
-/// The point (x, y) with this weight and cutoff.
-fn demand_point(x: i32, y: i32, w: i64, cutoff: Option<i32>) -> DemandPt
-    requires { IsDemandPt (record { x = x; y = y; w = w; cutoff = cutoff }) }
-    ensures { result ≡ record { x = x; y = y; w = w; cutoff = cutoff } }
-{
-    DemandPt { x, y, w, cutoff }
 }

@@ -1,12 +1,14 @@
 //! The polygon of a line.
 
 ghost use Rattle.std.specs.Prelude.{◌≡◌, IfOk};
-ghost use Rattle.siting_definitions.specs.Instance.{IsCoordinate, IsPolygon};
+ghost use Rattle.siting_definitions.specs.Instance.{IsCoordinate};
 ghost use Rattle.text_lines.specs.Lines.{fields_of};
 ghost use Rattle.instance_text.specs.Rows.{coordinate_of, number_in, place_from, places_of, polygon_of as polygon_from, polygon_row};
 ghost use Rattle.instance_text.specs.Outcome.{Says};
 
-use crate::faults::{BAD_LINE, BAD_NUMBER, LineError, NOT_CONVEX, OUT_OF_RANGE, TOO_FEW_VERTICES, TOO_MANY_VERTICES};
+use crate::faults::{
+    BAD_LINE, BAD_NUMBER, LineError, NOT_CONVEX, OUT_OF_RANGE, TOO_FEW_VERTICES, TOO_MANY_VERTICES,
+};
 use crate::numbers::{are_coordinates, are_numbers, coordinate};
 use convex_region::{Polygon, PolygonFault};
 use exact_geometry::Place;
@@ -15,8 +17,7 @@ use text_lines::{Within, count_fields, next_field};
 
 /// The polygon that the fields after `permit` or `forbid` say.
 pub fn read_polygon(alloc: Global, fields: &[u8]) -> Result<Polygon, LineError>
-    ensures value { Says result (polygon_row (fields_of fields.now)) }
-    ensures polygon { IfOk result IsPolygon }
+    ensures { Says result (polygon_row (fields_of fields.now)) }
 {
     if count_fields(fields) % 2 != 0 {
         return Err(LineError::Fault(BAD_LINE));
@@ -33,8 +34,7 @@ pub fn read_polygon(alloc: Global, fields: &[u8]) -> Result<Polygon, LineError>
 
 /// The polygon with these vertices in order.
 fn polygon_of(alloc: Global, corners: &[Place]) -> Result<Polygon, LineError>
-    ensures value { Says result (polygon_from corners.now) }
-    ensures polygon { IfOk result IsPolygon }
+    ensures { Says result (polygon_from corners.now) }
 {
     match Polygon::build(alloc, corners) {
         Ok(polygon) => Ok(polygon),

@@ -1,12 +1,11 @@
 //! What the lines of an instance text say, one after another.
 
 ghost use Rattle.std.specs.Prelude.{◌≡◌, Ok};
-ghost use Rattle.siting_definitions.specs.Instance.{IsDemandPt, IsPolygon};
 ghost use Rattle.text_lines.specs.Lines.{fields_of};
 
 use crate::faults::{
-    AFTER_END, BAD_HEADER, BAD_LINE, LineError, NO_END, NO_KIND, NO_PERMIT, NO_POINT, TOO_MANY_POINTS,
-    TOO_MANY_POLYGONS, TWO_KINDS, WEIGHT_SUM,
+    AFTER_END, BAD_HEADER, BAD_LINE, LineError, NO_END, NO_KIND, NO_PERMIT, NO_POINT,
+    TOO_MANY_POINTS, TOO_MANY_POLYGONS, TWO_KINDS, WEIGHT_SUM,
 };
 use crate::phase::Phase;
 use crate::points::{read_kind, read_point};
@@ -104,7 +103,13 @@ impl Reading {
     }
 
     #[tactic(auto, unfolding(crate::specs::Reading::take_row))]
-    fn take_row(&mut self, alloc: Global, cutoffs: bool, word: &[u8], fields: &[u8]) -> Result<(), LineError>
+    fn take_row(
+        &mut self,
+        alloc: Global,
+        cutoffs: bool,
+        word: &[u8],
+        fields: &[u8],
+    ) -> Result<(), LineError>
         ensures { Takes result (readings.take_row cutoffs word.now (fields_of fields.now) self.old) self.new }
     {
         if is_word(word, b"kind") {
@@ -134,7 +139,6 @@ impl Reading {
 
     #[tactic(auto, using(crate::proofs::Limits::weight_push))]
     fn take_point(&mut self, point: DemandPt) -> Result<(), LineError>
-        requires { IsDemandPt point }
         ensures { Takes result (readings.take_point (Ok point) self.old) self.new }
     {
         if self.points.len() >= 4096 {
@@ -152,7 +156,6 @@ impl Reading {
     }
 
     fn take_permit(&mut self, polygon: Polygon) -> Result<(), LineError>
-        requires { IsPolygon polygon }
         ensures { Takes result (readings.take_permit (Ok polygon) self.old) self.new }
     {
         if self.permitted.len() >= 64 {
@@ -165,7 +168,6 @@ impl Reading {
     }
 
     fn take_forbid(&mut self, polygon: Polygon) -> Result<(), LineError>
-        requires { IsPolygon polygon }
         ensures { Takes result (readings.take_forbid (Ok polygon) self.old) self.new }
     {
         if self.forbidden.len() >= 64 {

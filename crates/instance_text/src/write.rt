@@ -31,7 +31,11 @@ fn write_front<K: Sink>(instance: &Instance, out: &mut Out<K>) -> Result<(), Wri
     ensures same { sink_of out.new ≡ sink_of out.old }
     ensures put { Put (stage K.room K.taken K.faults out.old) (stage K.room K.taken K.faults out.new) (front_text instance.now) result }
 {
-    let version: &[u8] = if has_cutoff(instance.points()) { b"2" } else { b"1" };
+    let version: &[u8] = if has_cutoff(instance.points()) {
+        b"2"
+    } else {
+        b"1"
+    };
     out.put_pieces(&[
         Piece::Text(b"siting "),
         Piece::Text(version),
@@ -100,7 +104,11 @@ fn write_point<K: Sink>(point: &DemandPt, out: &mut Out<K>) -> Result<(), WriteF
 }
 
 /// Puts the lines of polygons, each beginning with this word.
-fn write_polygons<K: Sink>(word: &[u8], polygons: &[Polygon], out: &mut Out<K>) -> Result<(), WriteFault>
+fn write_polygons<K: Sink>(
+    word: &[u8],
+    polygons: &[Polygon],
+    out: &mut Out<K>,
+) -> Result<(), WriteFault>
     requires { IsOpen out.old }
     ensures same { sink_of out.new ≡ sink_of out.old }
     ensures put { Put (stage K.room K.taken K.faults out.old) (stage K.room K.taken K.faults out.new) (flat_map (polygon_text word.now) polygons.now) result }
@@ -112,7 +120,11 @@ fn write_polygons<K: Sink>(word: &[u8], polygons: &[Polygon], out: &mut Out<K>) 
 }
 
 /// Puts the line of a polygon, beginning with this word.
-fn write_polygon<K: Sink>(word: &[u8], polygon: &Polygon, out: &mut Out<K>) -> Result<(), WriteFault>
+fn write_polygon<K: Sink>(
+    word: &[u8],
+    polygon: &Polygon,
+    out: &mut Out<K>,
+) -> Result<(), WriteFault>
     requires { IsOpen out.old }
     ensures same { sink_of out.new ≡ sink_of out.old }
     ensures put { Put (stage K.room K.taken K.faults out.old) (stage K.room K.taken K.faults out.new) (polygon_text word.now polygon.now) result }

@@ -1,5 +1,5 @@
-use Rattle.std.proofs.Common.{◌≡◌, ◌<◌, length, refl, arith}
-use Rattle.siting_definitions.specs.Polygon.{origin, vertex}
+use Rattle.std.proofs.Common.{◌<◌, length, refl, arith}
+use Rattle.siting_definitions.specs.Polygon.{origin}
 use Rattle.port_io.proofs.PutLemmas.{Put-next, Put-next_stop}
 use Rattle.instance_text.specs.Written.{vertex_text}
 use Rattle.instance_text.proofs.write.write_vertices.Goals as goal

@@ -7,4 +7,4 @@ pub invariant_of-self-2 : goal.invariant_of-self-2
 invariant_of-self-2 c =
     let pushed : c.push.new.self.items ≡ c.self.inside.points.items ++ c.args.point ∷ [] = grind arith in
     let size : c.unsigned_abs.result ≡ unsigned_abs c.args.point.w = search rules in
-    IsLawful-point _ _ _ _ _ c.self.invariant c.requires (search rules) size (search rules) pushed
+    IsLawful-point _ _ _ _ _ c.self.invariant (search rules) size (search rules) pushed
