@@ -30,15 +30,15 @@ cheaper-assoc-some : (cost : Pt → ℤ) (b z y : Pt) → cheaper cost b (Some (
 cheaper-assoc-some cost b z y =
     by_lt_z (cost y) (cost z)
     (λ below.
-      ap (λ w. cheaper cost b (Some w)) (takes_second cost z y below)
-      ∙ by_lt_z (cost z) (cost b)
-        (λ less. takes_second cost b y (lt_trans_ℤ _ _ _ below less) ∙ sym (takes_second cost z y below) ∙ ap (λ w. cheaper cost w (Some y)) (sym (takes_second cost b z less)))
-        (λ more. ap (λ w. cheaper cost w (Some y)) (sym (takes_first cost b z more))))
+    ap (λ w. cheaper cost b (Some w)) (takes_second cost z y below)
+    ∙ by_lt_z (cost z) (cost b)
+    (λ less. takes_second cost b y (lt_trans_ℤ _ _ _ below less) ∙ sym (takes_second cost z y below) ∙ ap (λ w. cheaper cost w (Some y)) (sym (takes_second cost b z less)))
+    (λ more. ap (λ w. cheaper cost w (Some y)) (sym (takes_first cost b z more))))
     (λ above.
-      ap (λ w. cheaper cost b (Some w)) (takes_first cost z y above)
-      ∙ by_lt_z (cost z) (cost b)
-        (λ less. takes_second cost b z less ∙ sym (takes_first cost z y above) ∙ ap (λ w. cheaper cost w (Some y)) (sym (takes_second cost b z less)))
-        (λ more. takes_first cost b z more ∙ sym (takes_first cost b y (le_trans_ℤ _ _ _ more above)) ∙ ap (λ w. cheaper cost w (Some y)) (sym (takes_first cost b z more))))
+    ap (λ w. cheaper cost b (Some w)) (takes_first cost z y above)
+    ∙ by_lt_z (cost z) (cost b)
+    (λ less. takes_second cost b z less ∙ sym (takes_first cost z y above) ∙ ap (λ w. cheaper cost w (Some y)) (sym (takes_second cost b z less)))
+    (λ more. takes_first cost b z more ∙ sym (takes_first cost b y (le_trans_ℤ _ _ _ more above)) ∙ ap (λ w. cheaper cost w (Some y)) (sym (takes_first cost b z more))))
   where
     lt_trans_ℤ : (a b c : ℤ) → a <ℤ b → b <ℤ c → a <ℤ c
     lt_trans_ℤ a b c h k = omega (arith, ints)

@@ -9,3 +9,5 @@ pub use best_vertex::opening;
 pub use centre::centre_site;
 pub use laws::the_opening_is_the_first_of_least_cost;
 
+#[cfg(test)]
+mod tests;

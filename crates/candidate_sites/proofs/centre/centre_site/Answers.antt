@@ -17,7 +17,7 @@ pub returns-then-sq-eq0-clause-cost : goal.returns-then-sq-eq0-clause-cost
 returns-then-sq-eq0-clause-cost c =
     sym
     (ap (option_map (upper_of c.args.instance.now))
-      (no_centre-level c.args.instance.now c.args.sq (omega (arith, ap (λ (s : Square). s.level) c.sq.view_is))))
+    (no_centre-level c.args.instance.now c.args.sq (omega (arith, ap (λ (s : Square). s.level) c.sq.view_is))))
 
 pub returns-then-not-permits-clause-site : goal.returns-then-not-permits-clause-site
 returns-then-not-permits-clause-site c =
@@ -53,5 +53,5 @@ returns-clause-cost c =
     let fits : FitsSigned w64 c.cost_of-cost.result.1 = search rules in
     ap (λ u. Some u)
     (to_z-of_z w64 c.cost_of-cost.result.1 fits ∙ c.cost_of-cost.ensures.upper
-      ∙ ap (upper_of c.args.instance.now) (c.site_at-site.ensures ∙ c.centre-centre.ensures))
+    ∙ ap (upper_of c.args.instance.now) (c.site_at-site.ensures ∙ c.centre-centre.ensures))
     ∙ sym (ap (option_map (upper_of c.args.instance.now)) (some_centre c.args.instance.now c.args.sq above allowed))
