@@ -1,10 +1,10 @@
 -- A square is a convex polygon.
-use Rattle.std.proofs.Common.{◌≡◌, ◌≢◌, ℕ, zero, suc, ◌+◌, ◌*◌, ◌<◌, ◌≤◌, ℤ, pos, ◌-ℤ◌, ◌*ℤ◌, ◌<ℤ◌, ◌-◌, ◌≤ℤ◌, List, [], ◌∷◌, All, w32, to_z, length, refl, arith, ◌∙◌, subst, lit≤}
+use Rattle.std.proofs.Common.{◌≡◌, ℕ, zero, suc, ◌+◌, ◌*◌, ◌<◌, ◌≤◌, ℤ, pos, ◌-ℤ◌, ◌*ℤ◌, ◌<ℤ◌, ◌-◌, List, [], ◌∷◌, All, w32, to_z, refl, arith, ◌∙◌, subst, lit≤}
 use Rattle.std.proofs.lemmas.Int.{to_z_pos}
 use Rattle.std.proofs.lemmas.List.Elements.{All-nil, All-cons}
 use borrow.Author.Differences.{ints}
 use Rattle.siting_definitions.specs.Point.{Place, grid, point_of, side}
-use Rattle.siting_definitions.specs.Polygon.{vertex, next_of, IsConvex}
+use Rattle.siting_definitions.specs.Polygon.{IsConvex}
 use Rattle.siting_definitions.proofs.Integers.{diff, diffs, diff-lt, pos-diff}
 use Rattle.siting_definitions.specs.Instance.{IsPlace, IsPolygon}
 use Rattle.siting_definitions.specs.Polygon.{turned}

@@ -56,3 +56,19 @@ pub(crate) fn make_points(alloc: Global, seed: u32, count: u32) -> Result<Vec<De
     }
     Ok(points)
 }
+
+#[cfg(test)]
+mod tests {
+    use super::*;
+
+    #[test]
+    fn draws_of_seed_7(rt: HostRuntime) {
+        let mut generator = Generator { state: 7 };
+        let table = [(19564, 1282168116), (9806, 642666333), (10868, 712265938)];
+        for (draw, state) in table {
+            assert!(rt; generator.state <= 2147483647);
+            assert_eq!(rt; generator.draw(), draw);
+            assert_eq!(rt; generator.state, state);
+        }
+    }
+}

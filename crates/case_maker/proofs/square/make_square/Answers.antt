@@ -1,4 +1,4 @@
-use Rattle.std.proofs.Common.{◌≡◌, ◌∷◌, [], ◌∙◌, subst, ap, refl}
+use Rattle.std.proofs.Common.{◌∙◌, subst, ap}
 use Rattle.siting_definitions.specs.Polygon.{turned}
 use Rattle.convex_region.specs.Dent.{IsFirstDent}
 use Rattle.case_maker.specs.Made.{square}

@@ -1,4 +1,4 @@
-use Rattle.std.proofs.Common.{◌≡◌, ◌/◌, sym, ap}
+use Rattle.std.proofs.Common.{◌/◌, sym, ap}
 use Rattle.case_maker.proofs.Draws.{state_one}
 use Rattle.case_maker.proofs.points.Generator.draw.Goals as goal
 
