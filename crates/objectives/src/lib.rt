@@ -7,6 +7,8 @@
 mod bounds;
 mod laws;
 mod radii;
+#[cfg(test)]
+mod tests;
 mod total;
 
 pub use bounds::{coarse, cost_of, fine};
