@@ -14,7 +14,7 @@ use Rattle.siting_definitions.specs.Instance.{Instance}
 use Rattle.siting_definitions.specs.Permitted.{permits}
 use Rattle.siting_definitions.specs.Bounds.{upper_of}
 use Rattle.siting_definitions.specs.Sites.{cheaper, cheapest, candidates, opening_of, vertices}
-use Rattle.siting_definitions.proofs.Integers.{le_trans_ℤ, lt_le_trans_ℤ, le_lt_trans_ℤ, int_le-true, int_le-false, le-int_le, lt-int_le}
+use Rattle.siting_definitions.proofs.Integers.{le_trans_ℤ, le-int_le, lt-int_le}
 use Rattle.candidate_sites.specs.Better.{less, better, better_vertex}
 use Rattle.candidate_sites.specs.First.{IsFirstOfLeast}
 use borrow.Author.Differences.{ints}

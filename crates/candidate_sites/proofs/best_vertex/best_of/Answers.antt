@@ -1,4 +1,4 @@
-use Rattle.std.proofs.Common.{◌<◌, ◌≤◌, length, arith, ◌∙◌, ap}
+use Rattle.std.proofs.Common.{arith, ◌∙◌, ap}
 use Rattle.siting_definitions.specs.Point.{grid}
 use Rattle.candidate_sites.proofs.Cheapest.{vertex_more, vertex_all}
 use Rattle.candidate_sites.proofs.best_vertex.best_of.Goals as goal
