@@ -1,4 +1,3 @@
-use Rattle.std.proofs.Common.{◌<◌, length}
 use Rattle.discard_log.proofs.NodeLemmas.{set-remarked}
 use Rattle.discard_log.proofs.log.NodeList.remark.Goals as goal
 
