@@ -120,13 +120,6 @@ fn instance_of(alloc: Global, rows: &[PointRow]) -> Option<Instance> {
     let points = points_of(alloc, rows)?;
     let corners = [Place::of(0, 0), Place::of(1, 0), Place::of(0, 1)];
     let mut permitted = Vec::new(alloc);
-    permitted
-        .push(Polygon::build(alloc, &corners).ok()?)
-        .ok()?;
-    Some(Instance::build(
-        Kind::Sum,
-        points,
-        permitted,
-        Vec::new(alloc),
-    ))
+    permitted.push(Polygon::build(alloc, &corners).ok()?).ok()?;
+    Some(Instance::build(Kind::Sum, points, permitted, Vec::new(alloc)))
 }
