@@ -1,4 +1,4 @@
-//! Bounds of squares.
+//! Bounds of squares and costs of sites.
 
 ghost use Rattle.std.specs.Prelude.{◌≡◌, ◌≤◌, length, All, IfSome, unsigned_abs};
 ghost use Rattle.siting_definitions.specs.Instance.{DemandPt};
@@ -6,8 +6,8 @@ ghost use Rattle.siting_definitions.specs.Instance.{DemandPt};
 use convex_region::Polygon;
 use dyadic_square::Square;
 use exact_geometry::Place;
-use objectives::{coarse, fine};
-use site_model::{DemandPt, Instance, Kind};
+use objectives::{coarse, cost_of, fine};
+use site_model::{DemandPt, Instance, Kind, Site};
 use std::alloc::Global;
 
 /// A demand point with a weight of at most 3,906 in size, so that 4,096 of them make an instance. A cutoff of 0 is none.
@@ -76,6 +76,28 @@ pub extern "C" fn bsss_bench_fine(
     true
 }
 
+/// Writes the lower cost of the lower left corner of each square, and answers whether the rows make an instance and
+/// squares.
+#[unsafe(no_mangle)]
+pub extern "C" fn bsss_bench_cost(
+    alloc: Global,
+    points: &[PointRow],
+    squares: &[SquareRow],
+    costs: &mut [i64],
+) -> bool {
+    let Some(instance) = instance_of(alloc, points) else {
+        return false;
+    };
+    for (row, cost) in squares.iter().zip(costs.iter_mut()) {
+        let Some(square) = square_of(*row) else {
+            return false;
+        };
+        let (lower, _) = cost_of(&instance, Site::of(square.x, square.y));
+        *cost = lower;
+    }
+    true
+}
+
 fn square_of(row: SquareRow) -> Option<Square> {
     let limit = 137_438_953_472;
     if row.level <= 37 && row.x.unsigned_abs() <= limit && row.y.unsigned_abs() <= limit {
@@ -120,13 +142,6 @@ fn instance_of(alloc: Global, rows: &[PointRow]) -> Option<Instance> {
     let points = points_of(alloc, rows)?;
     let corners = [Place::of(0, 0), Place::of(1, 0), Place::of(0, 1)];
     let mut permitted = Vec::new(alloc);
-    permitted
-        .push(Polygon::build(alloc, &corners).ok()?)
-        .ok()?;
-    Some(Instance::build(
-        Kind::Sum,
-        points,
-        permitted,
-        Vec::new(alloc),
-    ))
+    permitted.push(Polygon::build(alloc, &corners).ok()?).ok()?;
+    Some(Instance::build(Kind::Sum, points, permitted, Vec::new(alloc)))
 }
