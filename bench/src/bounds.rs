@@ -1,6 +1,7 @@
-//! Coarse and fine bounds of squares over 4,096 demand points against the same formulas in ordinary Rust.
+//! Coarse and fine bounds of squares and costs of sites, over 4,096 demand points, against the same formulas in ordinary Rust.
 
 use crate::numbers::{best_of, Numbers};
+use std::hint::black_box;
 
 #[repr(C)]
 #[derive(Clone, Copy, Debug)]
@@ -37,6 +38,14 @@ unsafe extern "C" {
         square_count: usize,
         bounds: *mut i64,
         bound_count: usize,
+    ) -> bool;
+    fn bsss_bench_cost(
+        points: *const PointRow,
+        count: usize,
+        squares: *const SquareRow,
+        square_count: usize,
+        costs: *mut i64,
+        cost_count: usize,
     ) -> bool;
 }
 
@@ -97,6 +106,24 @@ fn std_fine(points: &[DemandPt], square: SquareRow) -> i64 {
     (total >> 16) as i64
 }
 
+/// The lower cost of the square's corner. The upper one is computed with it.
+#[inline(never)]
+fn std_cost(points: &[DemandPt], square: SquareRow) -> i64 {
+    let (mut lower, mut upper) = (0, 0);
+    for d in points {
+        let way = |z: i64, a: i32| z.abs_diff(65536 * a as i64) as u128;
+        let (dx, dy) = (way(square.x, d.x), way(square.y, d.y));
+        let m = (dx * dx + dy * dy) << 32;
+        let floor = m.isqrt();
+        let ceil = floor + (floor * floor < m) as u128;
+        let (low, high) = if d.w > 0 { (floor, ceil) } else { (ceil, floor) };
+        lower += d.w as i128 * capped(low, 1 << 32, d.cutoff);
+        upper += d.w as i128 * capped(high, 1 << 32, d.cutoff);
+    }
+    black_box(upper);
+    (lower >> 16) as i64
+}
+
 fn call(bounds: Bounds, points: &[PointRow], squares: &[SquareRow], out: &mut [i64]) {
     // SAFETY: each pointer goes with its length, and the call writes to `out` alone.
     let made = unsafe {
@@ -130,7 +157,7 @@ fn squares(numbers: &mut Numbers) -> Vec<SquareRow> {
 
 pub fn measure() {
     let mut numbers = Numbers::new();
-    println!("bounds over 4,096 points, ns a point: ours, the same formula by u128::isqrt");
+    println!("bounds of squares and both costs of sites over 4,096 points, ns a point: ours, the same formula by u128::isqrt");
     for (what, repelling, cutoffs) in
         [("attracting points", false, false), ("mixed signs", true, false), ("mixed signs and cutoffs", true, true)]
     {
@@ -139,12 +166,13 @@ pub fn measure() {
         let squares = squares(&mut numbers);
         for (name, ours, theirs) in [
             ("coarse", bsss_bench_coarse as Bounds, std_coarse as fn(&[DemandPt], SquareRow) -> i64),
-            ("fine  ", bsss_bench_fine as Bounds, std_fine),
+            ("fine  ", bsss_bench_fine, std_fine),
+            ("costs ", bsss_bench_cost, std_cost),
         ] {
             let mut bounds = vec![0; squares.len()];
             call(ours, &rows, &squares, &mut bounds);
             for (square, bound) in squares.iter().zip(&bounds) {
-                assert_eq!(*bound, theirs(&demand, *square), "{name} bound of {square:?}");
+                assert_eq!(*bound, theirs(&demand, *square), "{name} at {square:?}");
             }
             let per_point = 1.0 / (rows.len() * squares.len()) as f64;
             let our_time = best_of(20, &[()], |()| {

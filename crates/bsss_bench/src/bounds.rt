@@ -1,4 +1,4 @@
-//! Bounds of squares.
+//! Bounds of squares and costs of sites.
 
 ghost use Rattle.std.specs.Prelude.{◌≡◌, ◌≤◌, length, All, IfSome, unsigned_abs};
 ghost use Rattle.siting_definitions.specs.Instance.{DemandPt};
@@ -6,8 +6,8 @@ ghost use Rattle.siting_definitions.specs.Instance.{DemandPt};
 use convex_region::Polygon;
 use dyadic_square::Square;
 use exact_geometry::Place;
-use objectives::{coarse, fine};
-use site_model::{DemandPt, Instance, Kind};
+use objectives::{coarse, cost_of, fine};
+use site_model::{DemandPt, Instance, Kind, Site};
 use std::alloc::Global;
 
 /// A demand point with a weight of at most 3,906 in size, so that 4,096 of them make an instance. A cutoff of 0 is none.
@@ -72,6 +72,28 @@ pub extern "C" fn bsss_bench_fine(
             return false;
         };
         *bound = fine(&instance, square);
+    }
+    true
+}
+
+/// Writes the lower cost of the lower left corner of each square, and answers whether the rows make an instance and
+/// squares.
+#[unsafe(no_mangle)]
+pub extern "C" fn bsss_bench_cost(
+    alloc: Global,
+    points: &[PointRow],
+    squares: &[SquareRow],
+    costs: &mut [i64],
+) -> bool {
+    let Some(instance) = instance_of(alloc, points) else {
+        return false;
+    };
+    for (row, cost) in squares.iter().zip(costs.iter_mut()) {
+        let Some(square) = square_of(*row) else {
+            return false;
+        };
+        let (lower, _) = cost_of(&instance, Site::of(square.x, square.y));
+        *cost = lower;
     }
     true
 }

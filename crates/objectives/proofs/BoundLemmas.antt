@@ -1,10 +1,10 @@
 -- The fine bound is a cost that no rational point of the closed square falls below, and the two costs of a site enclose its
 -- cost: each because its radii are low, or high, for the point at one scale.
-use Rattle.std.proofs.Common.{◌≡◌, ℕ, ◌+◌, ◌*◌, ◌^◌, ◌≤◌, ◌<◌, min, ℤ, pos, negsuc, ◌+ℤ◌, ◌*ℤ◌, ◌≤ℤ◌, ◌<ℤ◌, List, [], ◌∷◌, map, Option, None, Some, true, cond, refl, sym, ap, ◌∙◌, subst, ◌⊎◌, inl, inr, ⊎_elim, arith}
+use Rattle.std.proofs.Common.{◌≡◌, ℕ, ◌*◌, ◌^◌, ◌≤◌, ◌<◌, min, ℤ, pos, negsuc, ◌*ℤ◌, ◌≤ℤ◌, ◌<ℤ◌, List, [], ◌∷◌, map, Option, None, Some, true, refl, sym, ap, ◌∙◌, subst, ◌⊎◌, inl, inr, ⊎_elim, arith}
 use Rattle.std.proofs.Math.Nat.{mul-le-mul_left}
 use Rattle.std.proofs.lemmas.Bool.{cases_lt, cond-true, cond-false}
-use Rattle.std.specs.Prelude.{⊤, unsigned_abs, MatchOption, int_lt, neg_ℤ}
-use borrow.Author.Differences.{up, down, ints, same_in}
+use Rattle.std.specs.Prelude.{⊤, unsigned_abs, MatchOption, neg_ℤ}
+use borrow.Author.Differences.{ints}
 use Rattle.siting_definitions.specs.Integer.{round_down, round_up}
 use Rattle.siting_definitions.specs.Root.{floor_root, ceil_root}
 use Rattle.siting_definitions.specs.Point.{Pt, Point, point_of}
@@ -12,7 +12,7 @@ use Rattle.siting_definitions.specs.Instance.{DemandPt, Instance, place_of}
 use Rattle.siting_definitions.specs.Cost.{distance2, IsAbove, IsBelow, IsHighAt, IsLowAt, AreHigh, AreLow, terms, total, total_of, CostAtLeast, CostAtMost}
 use Rattle.siting_definitions.specs.Square.{Square, holds_closed}
 use Rattle.siting_definitions.specs.Bounds.{near2, far2, capped, by_sign, fine_radius, lower_radius, upper_radius, fine_of, lower_of, upper_of}
-use Rattle.siting_definitions.proofs.Integers.{square_le, mul_le_ℤ, mul_assoc_ℤ, mul_comm_ℤ, lt-int_lt, le-int_lt, le_trans_ℤ}
+use Rattle.siting_definitions.proofs.Integers.{square_le, mul_le_ℤ, mul_assoc_ℤ, lt-int_lt, le-int_lt}
 use Rattle.siting_definitions.proofs.Totals.{total-scaled}
 use Rattle.siting_definitions.proofs.CostLemmas.{low_radii_bound, high_radii_cost}
 use Rattle.root_enclosure.proofs.RootLemmas.{floor_root-is, ceil_root-is}

@@ -1,15 +1,15 @@
 -- The coarse bound is at most the fine one, and less than it by at most the sum of the weights' sizes less 1.
-use Rattle.std.proofs.Common.{◌≡◌, ℕ, ◌+◌, ◌-◌, ◌*◌, ◌^◌, ◌≤◌, ◌<◌, min, ℤ, pos, negsuc, zero, suc, ◌+ℤ◌, ◌-ℤ◌, ◌*ℤ◌, ◌≤ℤ◌, ◌<ℤ◌, List, [], ◌∷◌, map, Option, None, Some, refl, sym, ap, ◌∙◌, arith}
+use Rattle.std.proofs.Common.{◌≡◌, ℕ, ◌+◌, ◌-◌, ◌*◌, ◌^◌, ◌≤◌, ℤ, pos, negsuc, ◌+ℤ◌, ◌*ℤ◌, ◌≤ℤ◌, ◌<ℤ◌, List, [], ◌∷◌, map, Option, None, Some, refl, ap, ◌∙◌, arith}
 use Rattle.std.proofs.Math.Nat.{mul-le-mul_left}
 use Rattle.std.proofs.lemmas.Bool.{cond-true, cond-false}
 use Rattle.std.proofs.lemmas.List.Sums.{sum_by-cons}
-use Rattle.std.specs.Prelude.{unsigned_abs, int_lt, sum_by}
+use Rattle.std.specs.Prelude.{unsigned_abs}
 use Rattle.std.proofs.lemmas.Int.{by_lt_z}
-use borrow.Author.Differences.{up, down, ints, same_in}
+use borrow.Author.Differences.{up, down, ints}
 use Rattle.siting_definitions.specs.Integer.{round_down}
 use Rattle.siting_definitions.specs.Root.{floor_root, ceil_root}
 use Rattle.siting_definitions.specs.Instance.{DemandPt, Instance, place_of, weight}
-use Rattle.siting_definitions.specs.Cost.{terms, total, total_of}
+use Rattle.siting_definitions.specs.Cost.{terms, total_of}
 use Rattle.siting_definitions.specs.Square.{Square}
 use Rattle.siting_definitions.specs.Bounds.{near2, far2, capped, by_sign, coarse_radius, fine_radius, coarse_of, fine_of}
 use Rattle.siting_definitions.proofs.Integers.{mul_assoc_ℤ, lt-int_lt, le-int_lt}

@@ -1,5 +1,5 @@
 -- A number that is at most a point's cost is at most each number that is at least its cost.
-use Rattle.std.proofs.Common.{◌≡◌, ℕ, ◌+◌, ◌*◌, ◌≤◌, ◌<◌, min, ℤ, pos, ◌+ℤ◌, ◌*ℤ◌, ◌≤ℤ◌, ◌<ℤ◌, List, [], ◌∷◌, map, Option, None, Some, refl, sym, ap, arith}
+use Rattle.std.proofs.Common.{ℕ, ◌+◌, ◌*◌, ◌≤◌, ℤ, pos, ◌+ℤ◌, ◌*ℤ◌, ◌≤ℤ◌, ◌<ℤ◌, List, [], ◌∷◌, map, Option, None, Some, arith}
 use Rattle.std.proofs.Math.Nat.{mul-le-mul_left}
 use Rattle.std.proofs.lemmas.Int.{by_lt_z}
 use Rattle.std.specs.Prelude.{unsigned_abs}
@@ -11,7 +11,7 @@ use Rattle.siting_definitions.specs.Cost.{distance2, IsHighAt, IsLowAt, terms, t
 use Rattle.siting_definitions.specs.Bounds.{capped, by_sign}
 use Rattle.siting_definitions.proofs.Integers.{mul_le_ℤ, add_mul_ℤ}
 use Rattle.siting_definitions.proofs.Totals.{RiseBy, total-drift}
-use Rattle.root_enclosure.proofs.RootLemmas.{floor_root-le-ceil_root, ceil_root-le-floor_root}
+use Rattle.root_enclosure.proofs.RootLemmas.{ceil_root-le-floor_root}
 use Rattle.objectives.proofs.BoundLemmas.{root_below, root_above, low_by_sign, high_by_sign, all_low, all_high}
 use Rattle.objectives.proofs.CoarseLemmas.{term-moved, at_positive, at_negative, added_weights}
 

@@ -5,9 +5,7 @@ use Rattle.std.proofs.lemmas.List.Sums.{fold_more, sum_by_more}
 use Rattle.objectives.proofs.Sizes.{step_small}
 use Rattle.std.specs.Int.{int_max}
 use Rattle.siting_definitions.specs.declared.Kind.TheVariants.{Sum, Max}
-use mir.Syntax.{w128}
-use Rattle.std.proofs.Common.{FitsSigned, to_z, of_z, Option, ◌+◌, ◌*◌, ◌<◌, ◌≤◌, length, take, get_or, arith}
-use Rattle.std.proofs.lemmas.Int.{to_z-of_z}
+use Rattle.std.proofs.Common.{Option, ◌+◌, ◌*◌, ◌<◌, ◌≤◌, length, take, get_or, arith}
 use Rattle.siting_definitions.specs.Instance.{DemandPt, Instance}
 use Rattle.siting_definitions.specs.Cost.{terms, total, total_of}
 use Rattle.objectives.specs.Totals.{sum_joined, max_joined, joined_at, size_of, IsTotal}
@@ -30,16 +28,16 @@ pub greatest_of_terms : (f : DemandPt → ℕ) (ds : List DemandPt) → unwrap_o
 greatest_of_terms f [] = refl
 greatest_of_terms f (d ∷ ds) = ap (λ o. unwrap_or o (pos 0)) (max_at f (d.w *ℤ pos (f d)) ds)
 
-pub sum_total : (i : Instance) (f : DemandPt → ℕ) (ds : List DemandPt) (t : ℤ) → FitsSigned w128 t → Sum ≡ i.kind → ds ≡ i.points → t ≡ unwrap_or (fold (joined_at sum_joined f) None ds) (pos 0) → to_z w128 (of_z w128 t) ≡ total_of i (map f i.points)
+pub sum_total : (i : Instance) (f : DemandPt → ℕ) (ds : List DemandPt) (t : ℤ) → Sum ≡ i.kind → ds ≡ i.points → t ≡ unwrap_or (fold (joined_at sum_joined f) None ds) (pos 0) → t ≡ total_of i (map f i.points)
 unfolding total_of
-sum_total i f ds t fits kind points e =
-    to_z-of_z w128 t fits ∙ e ∙ ap (λ ds. unwrap_or (fold (joined_at sum_joined f) None ds) (pos 0)) points ∙ sum_of_terms f i.points
+sum_total i f ds t kind points e =
+    e ∙ ap (λ ds. unwrap_or (fold (joined_at sum_joined f) None ds) (pos 0)) points ∙ sum_of_terms f i.points
     ∙ ap (λ k. total k (terms i.points (map f i.points))) kind
 
-pub greatest_total : (i : Instance) (f : DemandPt → ℕ) (ds : List DemandPt) (t : ℤ) → FitsSigned w128 t → Max ≡ i.kind → ds ≡ i.points → t ≡ unwrap_or (fold (joined_at max_joined f) None ds) (pos 0) → to_z w128 (of_z w128 t) ≡ total_of i (map f i.points)
+pub greatest_total : (i : Instance) (f : DemandPt → ℕ) (ds : List DemandPt) (t : ℤ) → Max ≡ i.kind → ds ≡ i.points → t ≡ unwrap_or (fold (joined_at max_joined f) None ds) (pos 0) → t ≡ total_of i (map f i.points)
 unfolding total_of
-greatest_total i f ds t fits kind points e =
-    to_z-of_z w128 t fits ∙ e ∙ ap (λ ds. unwrap_or (fold (joined_at max_joined f) None ds) (pos 0)) points ∙ greatest_of_terms f i.points
+greatest_total i f ds t kind points e =
+    e ∙ ap (λ ds. unwrap_or (fold (joined_at max_joined f) None ds) (pos 0)) points ∙ greatest_of_terms f i.points
     ∙ ap (λ k. total k (terms i.points (map f i.points))) kind
 
 -- ---- a step of the loop

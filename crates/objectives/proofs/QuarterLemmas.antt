@@ -1,17 +1,16 @@
 -- The fine bound of a square within another is at least the other's.
-use Rattle.std.proofs.Common.{◌≡◌, ℕ, ◌+◌, ◌-◌, ◌*◌, ◌^◌, ◌≤◌, ◌<◌, min, max, ℤ, pos, ◌+ℤ◌, ◌-ℤ◌, ◌*ℤ◌, ◌≤ℤ◌, ◌<ℤ◌, List, [], ◌∷◌, map, Option, None, Some, refl, sym, ap, ◌∙◌, suc, Bool, true, false, arith}
-use Rattle.std.proofs.Math.Nat.{mul-le-mul_left, mul-le-mul_right}
+use Rattle.std.proofs.Common.{◌≡◌, ℕ, ◌+◌, ◌-◌, ◌^◌, ◌≤◌, ◌<◌, ℤ, pos, ◌+ℤ◌, ◌*ℤ◌, ◌≤ℤ◌, ◌<ℤ◌, List, [], ◌∷◌, map, Option, None, Some, ap, ◌∙◌, suc, Bool, true, false, arith}
+use Rattle.std.proofs.Math.Nat.{mul-le-mul_right}
 use Rattle.std.proofs.Math.Nat.{pow-suc}
 use Rattle.std.proofs.lemmas.Int.{clamps}
 use Rattle.std.specs.Prelude.{unsigned_abs}
 use borrow.Author.Differences.{ints}
 use Rattle.siting_definitions.specs.Integer.{round_down}
-use Rattle.siting_definitions.specs.Root.{floor_root, ceil_root}
 use Rattle.siting_definitions.specs.Point.{Place}
 use Rattle.siting_definitions.specs.Instance.{DemandPt, Instance, place_of}
-use Rattle.siting_definitions.specs.Cost.{terms, total, total_of}
+use Rattle.siting_definitions.specs.Cost.{terms, total_of}
 use Rattle.siting_definitions.specs.Square.{Square, quarter_of, far_by, is_right, is_upper}
-use Rattle.siting_definitions.specs.Bounds.{near_on, far_on, near2, far2, capped, by_sign, fine_radius, fine_of}
+use Rattle.siting_definitions.specs.Bounds.{near_on, far_on, near2, far2, capped, fine_radius, fine_of}
 use Rattle.siting_definitions.proofs.Integers.{square_le}
 use Rattle.siting_definitions.proofs.Totals.{AreBelow, total-mono}
 use Rattle.root_enclosure.proofs.RootLemmas.{floor_root-mono, ceil_root-mono}

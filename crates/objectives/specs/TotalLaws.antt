@@ -5,7 +5,6 @@ use Rattle.std.specs.Prelude.{unsigned_abs, unwrap_or}
 use Rattle.std.specs.Int.{int_max}
 use Rattle.std.proofs.lemmas.Int.{clamps, unsigned_abs-mul}
 use borrow.Author.Differences.{ints, same_in}
-use Rattle.siting_definitions.specs.declared.Kind.{Kind}
 use Rattle.siting_definitions.specs.declared.Kind.TheVariants.{Sum, Max}
 use Rattle.siting_definitions.specs.Cost.{total}
 use Rattle.siting_definitions.proofs.Integers.{mul_assoc_ℤ}

@@ -5,13 +5,16 @@
 #![tactic(auto)]
 
 mod bounds;
+mod costs;
 mod laws;
 mod radii;
+mod rounding;
 #[cfg(test)]
 mod tests;
 mod total;
 
-pub use bounds::{coarse, cost_of, fine};
+pub use bounds::{coarse, fine};
+pub use costs::cost_of;
 pub use laws::{
     coarse_is_below_fine, costs_are_ordered, costs_enclose, fine_is_a_bound,
     quarters_are_bounded_higher,

@@ -1,4 +1,4 @@
-//! The radius of a demand point in each of the four numbers.
+//! The radius of a demand point in the bounds of a square and in the costs of a site.
 
 ghost use Rattle.std.specs.Prelude.{◌≡◌, ℕ, ◌*◌, ◌^◌, ◌≤◌, ℤ, pos, ◌≤ℤ◌, MatchOption, ⊤};
 ghost use Rattle.std.proofs.Common.{lit≤};
@@ -81,45 +81,20 @@ impl Radii for FineRadii {
     }
 }
 
-/// In 1/65536 of a grid unit: those of the lower cost of a site.
-#[derive(Clone, Copy)]
-pub(crate) struct LowerRadii(pub(crate) Site);
-
-impl Radii for LowerRadii {
-    ghost radius_of = { λ s d. bounds.lower_radius s.0 d };
-
-    ghost limit = { 65536 * longest };
-
-    ghost is_small = { lit≤ tt };
-
-    fn radius(&self, d: DemandPt) -> u64 {
-        let squared = squared_distance(self.0, d);
-        if d.w > 0 {
-            capped(d.cutoff, FINE_UNITS, fine_floor_root(squared))
-        } else {
-            capped(d.cutoff, FINE_UNITS, fine_ceil_root(squared))
-        }
-    }
-}
-
-/// In 1/65536 of a grid unit: those of the upper cost of a site.
-#[derive(Clone, Copy)]
-pub(crate) struct UpperRadii(pub(crate) Site);
-
-impl Radii for UpperRadii {
-    ghost radius_of = { λ s d. bounds.upper_radius s.0 d };
-
-    ghost limit = { 65536 * longest };
-
-    ghost is_small = { lit≤ tt };
-
-    fn radius(&self, d: DemandPt) -> u64 {
-        let squared = squared_distance(self.0, d);
-        if d.w > 0 {
-            capped(d.cutoff, FINE_UNITS, fine_ceil_root(squared))
-        } else {
-            capped(d.cutoff, FINE_UNITS, fine_floor_root(squared))
-        }
+/// The radii of `d` in the lower and in the upper cost of a site, in 1/65536 of a grid unit.
+pub(crate) fn enclosing_radii(site: Site, d: DemandPt) -> (u64, u64)
+    ensures lower { result.0 ≡ bounds.lower_radius site d }
+    ensures upper { result.1 ≡ bounds.upper_radius site d }
+    ensures lower_size { result.0 ≤ 65536 * longest }
+    ensures upper_size { result.1 ≤ 65536 * longest }
+{
+    let (floor, ceil) = enclosing_roots(squared_distance(site, d));
+    let floor = capped(d.cutoff, FINE_UNITS, floor);
+    let ceil = capped(d.cutoff, FINE_UNITS, ceil);
+    if d.w > 0 {
+        (floor, ceil)
+    } else {
+        (ceil, floor)
     }
 }
 
@@ -154,6 +129,20 @@ fn fine_ceil_root(squared: u128) -> u64
     ensures size { result ≤ 65536 * longest }
 {
     ceil_root(squared * FINE_UNITS_SQUARED)
+}
+
+/// The root of a squared distance in grid units, rounded down and rounded up, in 1/65536 of a grid unit.
+fn enclosing_roots(squared: u128) -> (u64, u64)
+    requires { squared ≤ longest * longest }
+    ensures floor { result.0 ≡ roots.floor_root (squared * 2 ^ 32) }
+    ensures ceil { result.1 ≡ roots.ceil_root (squared * 2 ^ 32) }
+    ensures floor_size { result.0 ≤ 65536 * longest }
+    ensures ceil_size { result.1 ≤ 65536 * longest }
+{
+    let m = squared * FINE_UNITS_SQUARED;
+    let floor = floor_root(m);
+    let rest = m - floor as u128 * floor as u128;
+    (floor, floor + (rest > 0) as u64)
 }
 
 /// The lesser of a radius and the cutoff, where there is one. `units` is how many of the radius's units make a length.

@@ -1,4 +1,4 @@
-use Rattle.std.proofs.Common.{◌∙◌, FitsSigned, sym, ap, rules, arith}
+use Rattle.std.proofs.Common.{◌∙◌, FitsSigned, ap, rules, arith}
 use mir.Syntax.{w64, w128}
 use Rattle.std.specs.Prelude.{unsigned_abs, sum_by, take}
 use Rattle.std.proofs.lemmas.Int.{to_z-of_z}

@@ -1,7 +1,5 @@
 use Rattle.std.proofs.Common.{sym, ap, ◌∙◌, arith}
 use Rattle.siting_definitions.specs.Instance.{DemandPt, place_of}
-use Rattle.siting_definitions.specs.Point.{point_of}
-use Rattle.siting_definitions.specs.Cost.{distance2}
 use Rattle.dist_bounds.specs.Limits.{longest}
 use Rattle.objectives.proofs.Computed.{attracts, repels, coarse-attracting, coarse-repelling}
 use Rattle.objectives.proofs.radii.CoarseRadiiRadii.radius.Goals as goal

@@ -3,15 +3,15 @@ use Rattle.siting_definitions.specs.Point.{point_of}
 use Rattle.objectives.proofs.BoundLemmas.{lower_of-bounds, upper_of-bounds}
 use Rattle.objectives.proofs.CostOrder.{cost_order}
 use Rattle.objectives.proofs.Computed.{lower-from, upper-from}
-use Rattle.objectives.proofs.bounds.cost_of.Goals as goal
+use Rattle.objectives.proofs.costs.cost_of.Goals as goal
 
 pub returns-clause-lower : goal.returns-clause-lower
 returns-clause-lower c =
-    lower-from c.args.instance.now c.args.site c.total_of.result c.rounded_down-lower.result (search rules) (search rules) c.total_of.ensures.value c.rounded_down-lower.ensures.value
+    lower-from c.args.instance.now c.args.site c.totals_of-lower.result.0 c.rounded_down.result (search rules) (search rules) c.totals_of-lower.ensures.lower c.rounded_down.ensures.value
 
 pub returns-clause-upper : goal.returns-clause-upper
 returns-clause-upper c =
-    upper-from c.args.instance.now c.args.site c.total_of-2.result c.rounded_up-upper.result (search rules) (search rules) c.total_of-2.ensures.value c.rounded_up-upper.ensures.value
+    upper-from c.args.instance.now c.args.site c.totals_of-lower.result.1 c.rounded_up.result (search rules) (search rules) c.totals_of-lower.ensures.upper c.rounded_up.ensures.value
 
 pub returns-clause-at_least : goal.returns-clause-at_least
 returns-clause-at_least c = rw (returns-clause-lower c) (lower_of-bounds c.args.instance.now c.args.site)
