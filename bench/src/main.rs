@@ -1,8 +1,10 @@
 //! Measures calls of the proved code against ordinary Rust, and compares their answers.
 
+mod bounds;
 mod numbers;
 mod roots;
 
 fn main() {
     roots::measure();
+    bounds::measure();
 }

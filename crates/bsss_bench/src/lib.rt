@@ -3,4 +3,5 @@
 //! A 128-bit number doesn't cross to C, so it is passed as its upper and its lower 64 bits.
 #![tactic(auto)]
 
+mod bounds;
 mod roots;

@@ -1,13 +1,11 @@
 -- The area of a convex polygon is above 0: it is that of the triangles from vertex 0 to each edge.
-use Rattle.std.proofs.Common.{◌≡◌, ◌≢◌, ℕ, zero, suc, ◌+◌, ◌-◌, ◌<◌, ◌≤◌, List, length, ℤ, pos, ◌+ℤ◌, ◌-ℤ◌, ◌*ℤ◌, ◌≤ℤ◌, ◌<ℤ◌, refl, sym, ap, ◌∙◌, subst, arith}
-use Rattle.std.proofs.lemmas.Bool.Decides.{nat_tests}
+use Rattle.std.proofs.Common.{◌≡◌, ◌≢◌, ℕ, zero, suc, ◌+◌, ◌-◌, ◌<◌, ◌≤◌, List, length, ℤ, pos, ◌+ℤ◌, ◌-ℤ◌, ◌*ℤ◌, ◌≤ℤ◌, ◌<ℤ◌, refl, subst, arith}
 use borrow.Author.Differences.{up, down, ints}
 use Rattle.siting_definitions.specs.Point.{Place, grid, point_of, side}
-use Rattle.siting_definitions.specs.Polygon.{edges, vertex, next_of, doubled_area, turned}
+use Rattle.siting_definitions.specs.Polygon.{vertex, next_of, doubled_area, turned}
 use Rattle.siting_definitions.specs.Instance.{IsPolygon}
 use Rattle.siting_definitions.proofs.Integers.{diff, diffs, diff-eq, as_diff, le_lt_trans_ℤ}
 use Rattle.convex_region.proofs.Edges.{ends, cross_of, area_to, area_more, area_all, turned_not, next_below, next_last}
-use Rattle.convex_region.proofs.BoxLemmas.{turn}
 
 -- the side of c on the edge from a to b is that of the triangle of the three, in grid units
 triangle-diff : (ax ax' ay ay' bx bx' by by' cx cx' cy cy' w w' : ℕ) → (diff bx bx' -ℤ diff ax ax') *ℤ (diff w w' *ℤ diff cy cy' -ℤ diff w w' *ℤ diff ay ay') -ℤ (diff by by' -ℤ diff ay ay') *ℤ (diff w w' *ℤ diff cx cx' -ℤ diff w w' *ℤ diff ax ax') ≡ ((diff ax ax' *ℤ diff by by' -ℤ diff bx bx' *ℤ diff ay ay') +ℤ (diff bx bx' *ℤ diff cy cy' -ℤ diff cx cx' *ℤ diff by by') -ℤ (diff ax ax' *ℤ diff cy cy' -ℤ diff cx cx' *ℤ diff ay ay')) *ℤ diff w w'

@@ -1,7 +1,6 @@
 -- A point that a polygon holds lies in the polygon's bounding box: at a vertex that is farthest in some direction, the two
 -- edges that meet there hold the point in a cone, of which no point is farther in that direction.
-use Rattle.std.proofs.Common.{◌≡◌, ◌≢◌, ℕ, zero, suc, ◌+◌, ◌-◌, ◌*◌, ◌<◌, ◌≤◌, ◌==◌, List, [], ◌∷◌, length, get_or, map, true, cond, ℤ, pos, negsuc, neg_ℤ, ◌+ℤ◌, ◌-ℤ◌, ◌*ℤ◌, ◌≤ℤ◌, ◌<ℤ◌, refl, sym, ap, ◌∙◌, subst, ⊎_elim, arith}
-use Rattle.std.specs.Prelude.{All, int_le}
+use Rattle.std.proofs.Common.{◌≡◌, ◌≢◌, ℕ, zero, suc, ◌-◌, ◌<◌, ◌≤◌, ◌==◌, List, [], ◌∷◌, length, map, true, cond, ℤ, pos, negsuc, neg_ℤ, ◌-ℤ◌, ◌*ℤ◌, ◌≤ℤ◌, ◌<ℤ◌, refl, ap, ◌∙◌, subst, ⊎_elim, arith}
 use Rattle.std.specs.List.{fold}
 use Rattle.std.specs.Int.{int_max, int_min}
 use Rattle.std.proofs.lemmas.Bool.{cases_lt}
@@ -10,10 +9,10 @@ use Rattle.std.proofs.lemmas.Int.{by_lt_z, fold-int_max_bounds, fold-int_min_bou
 use Rattle.std.proofs.lemmas.List.{get_or-map, length-map}
 use Rattle.std.proofs.lemmas.List.Elements.{All-get_or}
 use Rattle.std.proofs.lemmas.List.Sums.{AllPass-from_list_all}
-use borrow.Author.Differences.{up, down, ints, same_in}
+use borrow.Author.Differences.{up, down, ints}
 use Rattle.siting_definitions.specs.Integer.{least, greatest}
 use Rattle.siting_definitions.specs.Point.{Place, Point, grid, point_of, side}
-use Rattle.siting_definitions.specs.Polygon.{edges, vertex, next_of, origin, covers, IsConvex}
+use Rattle.siting_definitions.specs.Polygon.{edges, vertex, next_of, origin, covers}
 use Rattle.siting_definitions.specs.Instance.{IsPolygon}
 use Rattle.siting_definitions.proofs.Integers.{diff, diffs, diff-eq, as_diff, mul_comm_ℤ, mul_le_ℤ, mul_lt_ℤ, le_trans_ℤ, int_le-true}
 use Rattle.convex_region.specs.Box.{LiesInBox}
@@ -71,10 +70,10 @@ cone : (u k a b s t : ℤ) → u *ℤ k ≡ b *ℤ s -ℤ a *ℤ t → (pos 0) <
 cone u k a b s t law left ahead back first second =
     by_lt_z (pos 0) u
     (λ above.
-      let e : (pos 0) <ℤ (b *ℤ s -ℤ a *ℤ t) = subst (λ z. (pos 0) <ℤ z) law (above_product u k above left) in
-      let f = not_above_product b s back first in
-      let g = not_below_product a t ahead second in
-      absurd (omega (arith, ints, e, f, g)))
+    let e : (pos 0) <ℤ (b *ℤ s -ℤ a *ℤ t) = subst (λ z. (pos 0) <ℤ z) law (above_product u k above left) in
+    let f = not_above_product b s back first in
+    let g = not_below_product a t ahead second in
+    absurd (omega (arith, ints, e, f, g)))
     (λ le. le)
 
 below_product : (u k : ℤ) → u <ℤ (pos 0) → (pos 0) <ℤ k → (u *ℤ k) <ℤ (pos 0)
@@ -86,10 +85,10 @@ cone_back : (u k a b s t : ℤ) → u *ℤ k ≡ b *ℤ s -ℤ a *ℤ t → (pos
 cone_back u k a b s t law left back ahead first second =
     by_lt_z u (pos 0)
     (λ below.
-      let e : (b *ℤ s -ℤ a *ℤ t) <ℤ (pos 0) = subst (λ z. z <ℤ (pos 0)) law (below_product u k below left) in
-      let f = not_below_product b s ahead first in
-      let g = not_above_product a t back second in
-      absurd (omega (arith, ints, e, f, g)))
+    let e : (b *ℤ s -ℤ a *ℤ t) <ℤ (pos 0) = subst (λ z. z <ℤ (pos 0)) law (below_product u k below left) in
+    let f = not_below_product b s ahead first in
+    let g = not_above_product a t back second in
+    absurd (omega (arith, ints, e, f, g)))
     (λ le. le)
 
 cone_x-diff : (ax ax' ay ay' bx bx' by by' px px' py py' : ℕ) → diff px px' *ℤ turn (diff ax ax') (diff ay ay') (diff bx bx') (diff by by') ≡ diff bx bx' *ℤ turn (diff ax ax') (diff ay ay') (diff px px') (diff py py') -ℤ diff ax ax' *ℤ turn (diff bx bx') (diff by by') (diff px px') (diff py py')
@@ -193,17 +192,21 @@ farthest g (suc k) =
     let m = (farthest g k).0 in
     let last = (farthest g k).1 in
     by_lt_z (g m) (g (suc k))
-    (λ less.
-      (suc k, record {
+    (λ less. (
+      suc k,
+      record {
         within = omega arith;
         all =
-          λ j h. ⊎_elim (λ below. let e = last.all j (omega arith) in omega (arith, ints, e)) (λ not_below. same_number g j (suc k) (omega arith)) (cases_lt j (suc k))
-      }))
-    (λ more.
-      (m, record {
+            λ j h. ⊎_elim (λ below. let e = last.all j (omega arith) in omega (arith, ints, e)) (λ not_below. same_number g j (suc k) (omega arith)) (cases_lt j (suc k));
+      },
+    ))
+    (λ more. (
+      m,
+      record {
         within = let e = last.within in omega arith;
-        all = λ j h. ⊎_elim (λ below. last.all j (omega arith)) (λ not_below. let e = same_number g j (suc k) (omega arith) in omega (arith, ints, e)) (cases_lt j (suc k))
-      }))
+        all = λ j h. ⊎_elim (λ below. last.all j (omega arith)) (λ not_below. let e = same_number g j (suc k) (omega arith) in omega (arith, ints, e)) (cases_lt j (suc k));
+      },
+    ))
 
 -- ---- what a polygon that holds p shows of an edge and of a vertex
 pub covers_at : (vs : List Place) (p : Point) (i : ℕ) → i < length vs → covers vs p ≡ true → (pos 0) ≤ℤ side (vertex vs i) (vertex vs (next_of (length vs) i)) p
@@ -224,9 +227,9 @@ meets vs p m polygon covered within =
       first = subst (λ k. (pos 0) ≤ℤ side (vertex vs (before n m)) (vertex vs k) p) at (covers_at vs p (before n m) back covered);
       second = covers_at vs p m within covered;
       left =
-        subst (λ k. (pos 0) <ℤ side (vertex vs (before n m)) (vertex vs k) (point_of (grid (vertex vs (next_of n m))))) at
-        (polygon.convex (before n m) (next_of n m) back ahead (next_not_before n m few within)
-        (λ e. next_not_same n m few within (e ∙ at)))
+          subst (λ k. (pos 0) <ℤ side (vertex vs (before n m)) (vertex vs k) (point_of (grid (vertex vs (next_of n m))))) at
+          (polygon.convex (before n m) (next_of n m) back ahead (next_not_before n m few within)
+          (λ e. next_not_same n m few within (e ∙ at)));
     }
 
 -- in a direction h, what the two edges at a farthest vertex show of p
@@ -276,5 +279,5 @@ lies_in_box vs p polygon covered =
       left = le_trans_ℤ _ _ _ (scaled_le p.q _ _ (least-at x_of vs l.0 l.1)) l.2;
       lower = le_trans_ℤ _ _ _ (scaled_le p.q _ _ (least-at y_of vs d.0 d.1)) d.2;
       right = le_trans_ℤ _ _ _ r.2 (scaled_le p.q _ _ (greatest-at x_of vs r.0 r.1));
-      upper = le_trans_ℤ _ _ _ u.2 (scaled_le p.q _ _ (greatest-at y_of vs u.0 u.1))
+      upper = le_trans_ℤ _ _ _ u.2 (scaled_le p.q _ _ (greatest-at y_of vs u.0 u.1));
     }

@@ -6,7 +6,6 @@ use Rattle.std.proofs.lemmas.List.Sums.{fold_more}
 use Rattle.std.proofs.lemmas.List.Folds.{fold-map}
 use Rattle.std.proofs.lemmas.List.Elements.{All-more, All-nil, All-cons}
 use Rattle.siting_definitions.specs.Point.{Place}
-use Rattle.siting_definitions.specs.Square.{Extent}
 use Rattle.siting_definitions.specs.Instance.{IsPlace}
 use Rattle.siting_definitions.specs.Excluded.{bounds_of}
 

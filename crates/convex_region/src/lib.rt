@@ -132,8 +132,16 @@ mod tests {
         for (p, mirror_image, closed, inner) in table {
             assert_eq!(rt; triangle.covers(p), closed, "at {p:?}");
             assert_eq!(rt; triangle.covers_inside(p), inner, "at {p:?}");
-            assert_eq!(rt; mirrored.covers(mirror_image), closed, "at {mirror_image:?}");
-            assert_eq!(rt; mirrored.covers_inside(mirror_image), inner, "at {mirror_image:?}");
+            assert_eq!(rt;
+                mirrored.covers(mirror_image),
+                closed,
+                "at {mirror_image:?}"
+            );
+            assert_eq!(rt;
+                mirrored.covers_inside(mirror_image),
+                inner,
+                "at {mirror_image:?}"
+            );
         }
     }
 }

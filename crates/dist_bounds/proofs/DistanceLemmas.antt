@@ -1,12 +1,11 @@
 -- The nearest and the farthest squared distance enclose the squared distance of every rational point of the closed square.
-use Rattle.std.proofs.Common.{◌≡◌, ℕ, ◌+◌, ◌*◌, ◌^◌, ◌≤◌, max, ℤ, pos, ◌+ℤ◌, ◌-ℤ◌, ◌*ℤ◌, ◌≤ℤ◌, neg_ℤ, Bool, true, false, ◌&&◌, refl, sym, ap, ◌∙◌, subst, arith}
+use Rattle.std.proofs.Common.{◌≡◌, ℕ, ◌+◌, ◌*◌, ◌^◌, ◌≤◌, max, ℤ, pos, ◌+ℤ◌, ◌-ℤ◌, ◌*ℤ◌, ◌≤ℤ◌, neg_ℤ, true, sym, ap, ◌∙◌, subst, arith}
 use Rattle.std.proofs.Math.Nat.{mul-le-mul_left}
-use Rattle.std.specs.Prelude.{unsigned_abs, int_le}
+use Rattle.std.specs.Prelude.{unsigned_abs}
 use Rattle.std.specs.Int.{int_max}
 use Rattle.std.proofs.lemmas.Int.{by_lt_z, clamps, unsigned_abs-mul}
 use Rattle.std.proofs.lemmas.Bool.{and_parts}
 use borrow.Author.Differences.{up, down, neg_is, ints, same_in}
-use Rattle.siting_definitions.specs.Integer.{square_of}
 use Rattle.siting_definitions.specs.Point.{Place, Point}
 use Rattle.siting_definitions.specs.Cost.{distance2}
 use Rattle.siting_definitions.specs.Square.{Square, holds_closed, spans_closed}

@@ -1,1 +1,2 @@
 pub mod DistanceLemmas
+pub mod Axes

@@ -1,2 +1,139 @@
-//! Squared distances from a place to a square.
+//! Squared distances from a place: the least and the greatest to a closed square of the grid, and the one to a grid point.
+//!
+//! All are exact, in grid units squared, of which 2^32 make a square length.
 #![tactic(auto)]
+
+ghost use Rattle.std.specs.Prelude.{◌≡◌, ◌*◌, ◌+◌, ◌^◌, ◌<◌, ◌≤◌, pos, ◌-ℤ◌, ◌*ℤ◌, unsigned_abs, max, true};
+ghost use Rattle.std.specs.Int.{int_max};
+ghost use Rattle.siting_definitions.specs.Point.{Point, point_of};
+ghost use Rattle.siting_definitions.specs.Instance.{IsCoordinate};
+ghost use Rattle.siting_definitions.specs.Cost.{distance2};
+ghost use Rattle.siting_definitions.specs.Square.{holds_closed};
+ghost use Rattle.siting_definitions.specs.Bounds as bounds;
+ghost use Rattle.dist_bounds.specs.Limits.{IsWithinSquares, longest, longest_way};
+
+use dyadic_square::Square;
+use exact_geometry::{Place, Pt};
+
+/// The least squared distance from `a` to the closed square, in grid units squared.
+pub fn near2(sq: Square, a: Place) -> u128
+    ensures value { result ≡ bounds.near2 sq a }
+    ensures encloses { (p : Point) → holds_closed sq p ≡ true → result * (p.q * p.q) ≤ 2 ^ 32 * distance2 a p }
+    ensures size { result ≤ longest * longest }
+{
+    let side = sq.side_len();
+    sum_of_squares(
+        way_outside(sq.x, sq.x + side, on_grid(a.x)),
+        way_outside(sq.y, sq.y + side, on_grid(a.y)),
+    )
+}
+
+/// The greatest squared distance from `a` to the closed square, in grid units squared.
+pub fn far2(sq: Square, a: Place) -> u128
+    ensures value { result ≡ bounds.far2 sq a }
+    ensures encloses { (p : Point) → holds_closed sq p ≡ true → 2 ^ 32 * distance2 a p ≤ result * (p.q * p.q) }
+    ensures size { result ≤ longest * longest }
+{
+    let side = sq.side_len();
+    sum_of_squares(
+        way_to_far_end(sq.x, sq.x + side, on_grid(a.x)),
+        way_to_far_end(sq.y, sq.y + side, on_grid(a.y)),
+    )
+}
+
+/// The squared distance from `a` to the grid point `z`, in grid units squared. Each coordinate of `z` is at most 2^38 in
+/// size.
+pub fn distance2(z: Pt, a: Place) -> u128
+    requires x { IsWithinSquares z.x }
+    requires y { IsWithinSquares z.y }
+    ensures value { result ≡ distance2 a (point_of z) }
+    ensures size { result ≤ longest * longest }
+{
+    sum_of_squares(way(z.x, on_grid(a.x)), way(z.y, on_grid(a.y)))
+}
+
+/// A coordinate in lengths, in grid units.
+#[inline(always)]
+fn on_grid(v: i32) -> i64
+    requires { IsCoordinate v }
+    ensures value { result ≡ pos 65536 *ℤ v }
+    ensures size { unsigned_abs result ≤ 65536000000 }
+{
+    65536 * v as i64
+}
+
+/// How far `a` lies outside of the span from `low` to `high`, in grid units.
+#[inline(always)]
+fn way_outside(low: i64, high: i64, a: i64) -> u64
+    requires low { IsWithinSquares low }
+    requires high { IsWithinSquares high }
+    requires a { unsigned_abs a ≤ 65536000000 }
+    ensures value { result ≡ unsigned_abs (int_max (pos 0) (int_max (low -ℤ a) (a -ℤ high))) }
+    ensures size { result ≤ longest_way }
+{
+    (low - a).max(a - high).max(0) as u64
+}
+
+/// How far `a` lies from the farther end of the span from `low` to `high`, in grid units.
+#[inline(always)]
+fn way_to_far_end(low: i64, high: i64, a: i64) -> u64
+    requires low { IsWithinSquares low }
+    requires high { IsWithinSquares high }
+    requires a { unsigned_abs a ≤ 65536000000 }
+    ensures value { result ≡ max (unsigned_abs (low -ℤ a)) (unsigned_abs (high -ℤ a)) }
+    ensures size { result ≤ longest_way }
+{
+    low.abs_diff(a).max(high.abs_diff(a))
+}
+
+/// How far two coordinates are apart, in grid units.
+#[inline(always)]
+fn way(z: i64, a: i64) -> u64
+    requires z { IsWithinSquares z }
+    requires a { unsigned_abs a ≤ 65536000000 }
+    ensures value { result ≡ unsigned_abs (z -ℤ a) }
+    ensures size { result ≤ longest_way }
+{
+    z.abs_diff(a)
+}
+
+/// The sum of two squares.
+#[inline(always)]
+fn sum_of_squares(a: u64, b: u64) -> u128
+    requires a { a ≤ longest_way }
+    requires b { b ≤ longest_way }
+    ensures value { result ≡ a * a + b * b }
+    ensures size { result ≤ longest * longest }
+{
+    a as u128 * a as u128 + b as u128 * b as u128
+}
+
+#[cfg(test)]
+mod tests {
+    use super::*;
+
+    #[test]
+    fn distances_to_squares(rt: HostRuntime) {
+        let unit = Square::of(0, 0, 16);
+        let table = [
+            // Inside, on a corner, beside, and beyond a corner: lengths are 65536 grid units.
+            (Square::of(0, 0, 19), Place::of(5, 5), 0, 2 * 327680 * 327680),
+            (unit, Place::of(0, 0), 0, 2 * 65536 * 65536),
+            (unit, Place::of(3, 0), 131072 * 131072, 196608 * 196608 + 65536 * 65536),
+            (unit, Place::of(-1, -2), 5 * 65536 * 65536, 13 * 65536 * 65536),
+            (Square::of(-7, 9, 0), Place::of(0, 0), 36 + 81, 49 + 100),
+            (
+                Square::of(-65536000000, -65536000000, 37),
+                Place::of(-1000000, -1000000),
+                0,
+                37778931862957161709568,
+            ),
+        ];
+        for (square, place, near, far) in table {
+            assert_eq!(rt; near2(square, place), near, "{place:?} to {square:?}");
+            assert_eq!(rt; far2(square, place), far, "{place:?} to {square:?}");
+        }
+        assert_eq!(rt; distance2(Pt::of(3, -4), Place::of(0, 0)), 25);
+        assert_eq!(rt; distance2(Pt::of(274877906944, 0), Place::of(-1000000, 0)), 115881628040878291419136);
+    }
+}

@@ -1,2 +1,19 @@
 //! Bounds of squares and costs of sites.
+//!
+//! A cost unit is 1/65536 of weight times length. The coarse bound takes whole roots in grid units; the fine bound and the
+//! two costs of a site take them in units of 1/65536 of a grid unit.
 #![tactic(auto)]
+
+mod bounds;
+mod laws;
+mod radii;
+#[cfg(test)]
+mod tests;
+mod total;
+
+pub use bounds::{coarse, cost_of, fine};
+pub use laws::{
+    coarse_is_below_fine, costs_are_ordered, costs_enclose, fine_is_a_bound,
+    quarters_are_bounded_higher,
+};
+pub use total::{MaxTotal, SumTotal, Total};

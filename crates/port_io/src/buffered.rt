@@ -13,7 +13,8 @@ pub struct WriteFault;
 
 // Writes all bytes to the sink.
 fn write_all<K: Sink>(sink: &mut K, bytes: &[u8]) -> Result<(), WriteFault>
-    ensures { Wrote (sink_view K.room K.taken K.faults sink.old) (sink_view K.room K.taken K.faults sink.new) bytes.now result }
+    ensures { Wrote (sink_view K.room K.taken K.faults sink.old)
+        (sink_view K.room K.taken K.faults sink.new) bytes.now result }
 {
     let mut at = 0;
     while at < bytes.len() {
@@ -50,7 +51,8 @@ impl<'a, K: Sink> Out<'a, K> {
     /// Output to this sink, with nothing put yet.
     pub fn new(sink: &'a mut K) -> Out<'a, K>
         ensures same { sink_of result ≡ sink.entry.ghost_name }
-        ensures stage { stage K.room K.taken K.faults result ≡ fresh (sink_view K.room K.taken K.faults sink.old) }
+        ensures stage { stage K.room K.taken K.faults result
+            ≡ fresh (sink_view K.room K.taken K.faults sink.old) }
     {
         Out {
             sink,
@@ -70,7 +72,8 @@ impl<'a, K: Sink> Out<'a, K> {
     pub fn put(&mut self, bytes: &[u8]) -> Result<(), WriteFault>
         requires { IsOpen self.old }
         ensures same { sink_of self.new ≡ sink_of self.old }
-        ensures put { Put (stage K.room K.taken K.faults self.old) (stage K.room K.taken K.faults self.new) bytes.now result }
+        ensures put { Put (stage K.room K.taken K.faults self.old)
+            (stage K.room K.taken K.faults self.new) bytes.now result }
     {
         let mut at = 0;
         while at < bytes.len() {
@@ -84,7 +87,8 @@ impl<'a, K: Sink> Out<'a, K> {
     pub fn put_number(&mut self, n: i64) -> Result<(), WriteFault>
         requires { IsOpen self.old }
         ensures same { sink_of self.new ≡ sink_of self.old }
-        ensures put { Put (stage K.room K.taken K.faults self.old) (stage K.room K.taken K.faults self.new) (signed_decimal n) result }
+        ensures put { Put (stage K.room K.taken K.faults self.old)
+            (stage K.room K.taken K.faults self.new) (signed_decimal n) result }
     {
         let mut digits = itoa::Buffer::new();
         self.put(digits.format(n).as_bytes())
@@ -94,7 +98,8 @@ impl<'a, K: Sink> Out<'a, K> {
     pub fn put_pieces(&mut self, pieces: &[Piece<'_>]) -> Result<(), WriteFault>
         requires { IsOpen self.old }
         ensures same { sink_of self.new ≡ sink_of self.old }
-        ensures put { Put (stage K.room K.taken K.faults self.old) (stage K.room K.taken K.faults self.new) (flat_map text_of pieces.now) result }
+        ensures put { Put (stage K.room K.taken K.faults self.old)
+            (stage K.room K.taken K.faults self.new) (flat_map text_of pieces.now) result }
     {
         for piece in pieces {
             self.put_piece(*piece)?;
@@ -102,10 +107,12 @@ impl<'a, K: Sink> Out<'a, K> {
         Ok(())
     }
 
+    // Puts one piece.
     fn put_piece(&mut self, piece: Piece<'_>) -> Result<(), WriteFault>
         requires { IsOpen self.old }
         ensures same { sink_of self.new ≡ sink_of self.old }
-        ensures put { Put (stage K.room K.taken K.faults self.old) (stage K.room K.taken K.faults self.new) (text_of piece.entry) result }
+        ensures put { Put (stage K.room K.taken K.faults self.old)
+            (stage K.room K.taken K.faults self.new) (text_of piece.entry) result }
     {
         match piece {
             Piece::Text(bytes) => self.put(bytes),
@@ -117,7 +124,8 @@ impl<'a, K: Sink> Out<'a, K> {
     fn make_space(&mut self) -> Result<(), WriteFault>
         requires { IsOpen self.old }
         ensures same { sink_of self.new ≡ sink_of self.old }
-        ensures put { Put (stage K.room K.taken K.faults self.old) (stage K.room K.taken K.faults self.new) [] result }
+        ensures put { Put (stage K.room K.taken K.faults self.old)
+            (stage K.room K.taken K.faults self.new) [] result }
         ensures space { OnOk result (length self.new.waiting < 4096) }
     {
         if self.waiting.is_full() {
@@ -131,7 +139,8 @@ impl<'a, K: Sink> Out<'a, K> {
     fn flush(&mut self) -> Result<(), WriteFault>
         requires { IsOpen self.old }
         ensures same { sink_of self.new ≡ sink_of self.old }
-        ensures put { Put (stage K.room K.taken K.faults self.old) (stage K.room K.taken K.faults self.new) [] result }
+        ensures put { Put (stage K.room K.taken K.faults self.old)
+            (stage K.room K.taken K.faults self.new) [] result }
         ensures empty { OnOk result (self.new.waiting ≡ []) }
     {
         match write_all(self.sink, self.waiting.as_slice()) {
@@ -149,7 +158,8 @@ impl<'a, K: Sink> Out<'a, K> {
     /// Ends the output: after `Ok` the sink has taken all that was put.
     pub fn finish(self) -> Result<(), WriteFault>
         requires { IsOpen self }
-        ensures { Wrote (sink_view K.room K.taken K.faults self.entry.sink.now) (sink_view K.room K.taken K.faults self.exit.0.now) self.entry.waiting result }
+        ensures { Wrote (sink_view K.room K.taken K.faults self.entry.sink.now)
+            (sink_view K.room K.taken K.faults self.exit.0.now) self.entry.waiting result }
     {
         let Out {
             sink,

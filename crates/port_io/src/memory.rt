@@ -113,7 +113,13 @@ pub struct MemSource {
 impl Model for MemSource {
     ghost Value = { MemSourceState };
 
-    ghost view = { λ s. record { left = s.held; chunk = s.chunk; fails = s.schedule.fails.items; calls = s.schedule.calls; faults = s.schedule.faults } };
+    ghost view = { λ s. record {
+      left = s.held;
+      chunk = s.chunk;
+      fails = s.schedule.fails.items;
+      calls = s.schedule.calls;
+      faults = s.schedule.faults;
+    } };
 
     ghost invariant = { λ s. 0 < s.chunk };
 }
@@ -123,7 +129,13 @@ impl MemSource {
     /// calls whose numbers, from 1, stand in `fails`.
     pub fn new(bytes: Vec<u8>, chunk: usize, fails: Vec<u64>) -> MemSource
         requires { 0 < chunk }
-        ensures { result ≡ record { left = bytes.items; chunk = chunk; fails = fails.items; calls = 0; faults = 0 } }
+        ensures { result ≡ record {
+          left = bytes.items;
+          chunk = chunk;
+          fails = fails.items;
+          calls = 0;
+          faults = 0;
+        } }
     {
         MemSource {
             held: Held::new(bytes),
@@ -146,11 +158,13 @@ impl Source for MemSource {
 
         // It fails exactly at the listed calls, and gives all that fits the chunk and `buf`.
         ensures listed { is_err result ≡ is_listed self.old.fails self.new.calls }
-        ensures count { IfOk result (λ n. n ≡ min (min self.old.chunk (length buf.new)) (length self.old.left)) }
+        ensures count { IfOk result (λ n.
+            n ≡ min (min self.old.chunk (length buf.new)) (length self.old.left)) }
 
         // Each call and each fault is counted, and the rest stays.
         ensures calls { self.new.calls ≡ counted self.old.calls }
-        ensures faults { self.new.faults ≡ (if is_err result then counted self.old.faults else self.old.faults) }
+        ensures faults { self.new.faults
+            ≡ (if is_err result then counted self.old.faults else self.old.faults) }
         ensures chunk { self.new.chunk ≡ self.old.chunk }
         ensures fails { self.new.fails ≡ self.old.fails }
     {
@@ -174,7 +188,14 @@ pub struct MemSink {
 impl Model for MemSink {
     ghost Value = { MemSinkState };
 
-    ghost view = { λ s. record { bytes = s.bytes.items; room = s.room; chunk = s.chunk; fails = s.schedule.fails.items; calls = s.schedule.calls; faults = s.schedule.faults } };
+    ghost view = { λ s. record {
+      bytes = s.bytes.items;
+      room = s.room;
+      chunk = s.chunk;
+      fails = s.schedule.fails.items;
+      calls = s.schedule.calls;
+      faults = s.schedule.faults;
+    } };
 
     ghost invariant = { λ s. (0 < s.chunk) × (vec_len s.bytes ≤ s.room) × (s.room ≤ vec_capacity s.bytes) };
 }
@@ -189,7 +210,14 @@ impl MemSink {
         fails: Vec<u64>,
     ) -> Result<MemSink, NoMemory>
         requires { 0 < chunk }
-        ensures { IfOk result (λ s. s ≡ record { bytes = []; room = room; chunk = chunk; fails = fails.items; calls = 0; faults = 0 }) }
+        ensures { IfOk result (λ s. s ≡ record {
+          bytes = [];
+          room = room;
+          chunk = chunk;
+          fails = fails.items;
+          calls = 0;
+          faults = 0;
+        }) }
     {
         match Vec::with_capacity(alloc, room) {
             Ok(bytes) => Ok(MemSink {
@@ -227,12 +255,15 @@ impl Sink for MemSink {
 
         // It fails exactly at the listed calls and where its room is full, and takes all that
         // fits the chunk and the room.
-        ensures listed { is_err result ≡ (is_listed self.old.fails self.new.calls || nat_le self.old.room (length self.old.bytes)) }
-        ensures count { IfOk result (λ n. n ≡ min (min self.old.chunk (length piece.now)) (self.old.room - length self.old.bytes)) }
+        ensures listed { is_err result ≡ (is_listed self.old.fails self.new.calls
+            || nat_le self.old.room (length self.old.bytes)) }
+        ensures count { IfOk result (λ n.
+            n ≡ min (min self.old.chunk (length piece.now)) (self.old.room - length self.old.bytes)) }
 
         // Each call and each fault is counted, and the rest stays.
         ensures calls { self.new.calls ≡ counted self.old.calls }
-        ensures faults { self.new.faults ≡ (if is_err result then counted self.old.faults else self.old.faults) }
+        ensures faults { self.new.faults
+            ≡ (if is_err result then counted self.old.faults else self.old.faults) }
         ensures room { self.new.room ≡ self.old.room }
         ensures chunk { self.new.chunk ≡ self.old.chunk }
         ensures fails { self.new.fails ≡ self.old.fails }

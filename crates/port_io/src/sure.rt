@@ -56,7 +56,10 @@ pub struct SureSink {
 impl Model for SureSink {
     ghost Value = { SureSinkState };
 
-    ghost view = { λ s. record { room = s.room; bytes = if s.is_over then None else Some s.bytes.items } };
+    ghost view = { λ s. record {
+      room = s.room;
+      bytes = if s.is_over then None else Some s.bytes.items;
+    } };
 
     ghost invariant = { λ s. (vec_len s.bytes ≤ s.room) × (s.room ≤ vec_capacity s.bytes) };
 }
@@ -78,7 +81,8 @@ impl SureSink {
 
     /// The bytes taken, or `None` where more were taken than the room.
     pub fn bytes(&self) -> Option<&[u8]>
-        ensures { MatchOption result (sure_taken self.now ≡ None) (λ bytes. sure_taken self.now ≡ Some bytes.now) }
+        ensures { MatchOption result (sure_taken self.now ≡ None)
+            (λ bytes. sure_taken self.now ≡ Some bytes.now) }
     {
         if self.is_over {
             None

@@ -8,7 +8,9 @@ use std::test::Fail;
 
 // Writes a line through an `Out`, from its making to its end.
 fn write_line<K: Sink>(sink: &mut K, number: i64) -> Result<(), WriteFault>
-    ensures { Wrote (sink_view K.room K.taken K.faults sink.old) (sink_view K.room K.taken K.faults sink.new) (codes "the number is " ++ (signed_decimal number ++ codes "\n")) result }
+    ensures { Wrote (sink_view K.room K.taken K.faults sink.old)
+        (sink_view K.room K.taken K.faults sink.new)
+        (codes "the number is " ++ (signed_decimal number ++ codes "\n")) result }
 {
     let mut out = Out::new(sink);
     out.put_pieces(&[

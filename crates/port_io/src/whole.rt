@@ -36,13 +36,16 @@ pub fn read_up_to<S: Source>(
 ) -> Result<Vec<u8>, ReadAll>
     // All bytes, and no more are left.
     ensures bytes { IfOk result (λ v. IfSome (S.left source.old) (λ xs. v.items ≡ xs)) }
-    ensures end { OnOk result (IfSome (S.left source.old) (λ _. S.left source.new ≡ Some [])) }
+    ensures end { OnOk result (IfSome (S.left source.old)
+        (λ _. S.left source.new ≡ Some [])) }
     ensures short { IfOk result (λ v. vec_len v ≤ limit) }
 
     // A longer input never gives `Ok`, and `TooLong` comes for no other.
     ensures long { IfSome (S.left source.old) (λ xs. limit < length xs → IsErr result) }
-    ensures too_long { IsErrOf result ReadAll.TooLong → IfSome (S.left source.old) (λ xs. limit < length xs) }
-    ensures read_fault { IsErrOf result ReadAll.ReadFault → Rose (S.faults source.old) (S.faults source.new) }
+    ensures too_long { IsErrOf result ReadAll.TooLong
+        → IfSome (S.left source.old) (λ xs. limit < length xs) }
+    ensures read_fault { IsErrOf result ReadAll.ReadFault
+        → Rose (S.faults source.old) (S.faults source.new) }
 
     // Whatever the answer, the source goes on telling, and its count has not fallen.
     ensures rest { IfSome (S.left source.old) (λ xs. HasRest xs (S.left source.new)) }

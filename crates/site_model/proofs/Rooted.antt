@@ -1,6 +1,5 @@
 -- The starting square, and that it holds each point that a permitted polygon holds.
-use Rattle.std.proofs.Common.{◌≡◌, ℕ, zero, suc, ◌+◌, ◌-◌, ◌*◌, ◌/◌, ◌^◌, ◌<◌, ◌≤◌, max, List, [], ◌∷◌, ◌++◌, length, get_or, map, All, Bool, true, false, ◌&&◌, ◌||◌, ℤ, pos, ◌+ℤ◌, ◌-ℤ◌, ◌*ℤ◌, ◌≤ℤ◌, ◌<ℤ◌, unsigned_abs, refl, sym, ap, ◌∙◌, subst, ◌⊎◌, inl, inr, ⊎_elim, arith, length-append, lit≤}
-use Rattle.std.specs.Prelude.{int_le, int_lt}
+use Rattle.std.proofs.Common.{◌≡◌, ℕ, ◌+◌, ◌-◌, ◌*◌, ◌/◌, ◌^◌, ◌<◌, ◌≤◌, max, List, [], ◌∷◌, length, map, All, Bool, true, false, ◌&&◌, ◌||◌, ℤ, pos, ◌+ℤ◌, ◌-ℤ◌, ◌*ℤ◌, ◌≤ℤ◌, ◌<ℤ◌, unsigned_abs, refl, sym, ap, ◌∙◌, subst, ◌⊎◌, inl, inr, ⊎_elim, arith, length-append, lit≤}
 use Rattle.std.specs.List.{list_any}
 use Rattle.std.specs.Float.Ieee.{size}
 use Rattle.std.specs.Int.Count.{count_leading_zeros}
@@ -10,17 +9,16 @@ use Rattle.std.proofs.lemmas.List.{get_or_append_left, get_or-append_right}
 use Rattle.std.proofs.lemmas.List.Elements.{All-head, All-tail}
 use Rattle.std.proofs.Math.Pow.{pow_mono}
 use borrow.Author.Differences.{ints, same_in}
-use lib.Ieee.Digits.{size-lt, size_reaches, size-le}
+use lib.Ieee.Digits.{size-lt, size-le}
 use Rattle.siting_definitions.specs.Integer.{least, greatest}
 use Rattle.siting_definitions.specs.Point.{Place, Point}
 use Rattle.siting_definitions.specs.Polygon.{vertex, origin, covers}
-use Rattle.siting_definitions.specs.Square.{Square, Extent, IsSquare, spans, holds}
+use Rattle.siting_definitions.specs.Square.{Extent, IsSquare, spans, holds}
 use Rattle.siting_definitions.specs.Instance.{Instance, IsInstance, IsPolygon}
 use Rattle.siting_definitions.specs.Excluded.{bounds_of}
 use Rattle.siting_definitions.specs.Permitted.{permits}
-use Rattle.siting_definitions.specs.Sites.{vertices, spread, span, root_of}
+use Rattle.siting_definitions.specs.Sites.{vertices, span, root_of}
 use Rattle.siting_definitions.proofs.Integers.{mul_comm_ℤ, mul_assoc_ℤ, mul_le_ℤ, mul_lt_ℤ, le_trans_ℤ, le_lt_trans_ℤ, le-int_le, lt-int_lt}
-use Rattle.convex_region.specs.Box.{LiesInBox}
 use Rattle.convex_region.proofs.Boxes.{x_of, y_of}
 use Rattle.convex_region.proofs.BoxLemmas.{least-at, greatest-at, lies_in_box}
 use Rattle.site_model.specs.Box.{IsBoxWithin, square_of_box}

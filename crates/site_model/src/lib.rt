@@ -26,6 +26,7 @@ mod tests {
         Polygon::build(alloc, corners).expect(rt, "a polygon")
     }
 
+    #[tactic(auto, unfolding(siting_definitions::specs::Instance::weight))]
     fn instance(
         rt: &impl Abort,
         alloc: Global,

@@ -1,4 +1,4 @@
-use Rattle.std.proofs.Common.{◌≡◌, ℕ, ℤ, pos, ◌*ℤ◌, ◌-◌, ◌≤◌, List, length, take, drop, w32, w64, FitsSigned, to_z, of_z, arith, rules, length-drop, take_all, subst, ap, ◌∙◌, sym}
+use Rattle.std.proofs.Common.{◌≡◌, ℤ, pos, ◌*ℤ◌, ◌-◌, List, length, take, drop, w32, w64, FitsSigned, to_z, of_z, arith, rules, length-drop, take_all, subst, ap, ◌∙◌}
 use Rattle.std.specs.Int.{int_max, int_min}
 use Rattle.std.proofs.lemmas.Int.{ints, to_z-of_z}
 use Rattle.siting_definitions.specs.Point.{Place}

@@ -1,4 +1,4 @@
-use Rattle.std.proofs.Common.{◌≡◌, ◌<◌, ◌≤◌, unsigned_abs, ℤ, ◌*ℤ◌, w32, w64, FitsSigned, to_z, of_z, arith, lit<}
+use Rattle.std.proofs.Common.{◌≡◌, ◌≤◌, unsigned_abs, ℤ, ◌*ℤ◌, w32, w64, FitsSigned, to_z, of_z, arith, lit<}
 use Rattle.std.proofs.lemmas.Nat.{mul-le}
 use Rattle.std.proofs.lemmas.Int.{to_z-of_z, fits_signed_mul, unsigned_abs-mul, ints}
 use Rattle.convex_region.proofs.build.product.Goals as goal

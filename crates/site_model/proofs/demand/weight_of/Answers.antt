@@ -1,7 +1,7 @@
-use Rattle.std.proofs.Common.{◌≡◌, ◌+◌, ◌≤◌, pos, w64, FitsSigned, sym, ap, ◌∙◌, subst, arith, rules}
+use Rattle.std.proofs.Common.{◌≡◌, ◌+◌, ◌≤◌, pos, w64, ap, ◌∙◌, subst, arith, rules}
 use Rattle.std.proofs.lemmas.Int.{to_z_pos, ints}
 use Rattle.std.proofs.lemmas.List.Elements.{All-more}
-use Rattle.siting_definitions.specs.Instance.{IsDemandPt, weight}
+use Rattle.siting_definitions.specs.Instance.{IsDemandPt}
 use Rattle.site_model.proofs.Weights.{w_of, weight_to, weight_to-more, weight_to-le, weight_to-all}
 use Rattle.site_model.proofs.demand.weight_of.Goals as goal
 

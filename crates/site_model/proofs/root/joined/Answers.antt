@@ -1,8 +1,6 @@
 use Rattle.std.proofs.Common.{◌≡◌, ℤ, w64, FitsSigned, to_z, of_z, refl, ap, ◌∙◌, rules}
 use Rattle.std.specs.Int.{int_max, int_min}
 use Rattle.std.proofs.lemmas.Int.{to_z-of_z}
-use Rattle.siting_definitions.specs.Square.{Extent}
-use Rattle.site_model.specs.Box.{join}
 use Rattle.site_model.proofs.root.joined.Goals as goal
 
 -- a minimum or a maximum of two numbers that were passed

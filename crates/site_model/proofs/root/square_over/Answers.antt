@@ -1,7 +1,7 @@
 use Rattle.std.proofs.Common.{◌≡◌, ℕ, ◌+◌, ◌/◌, ◌≤◌, max, ℤ, ◌-ℤ◌, unsigned_abs, w64, FitsSigned, to_z, of_z, ap, ◌∙◌, arith, rules}
 use Rattle.std.specs.Float.Ieee.{size}
 use Rattle.std.proofs.lemmas.Int.{to_z-of_z}
-use Rattle.siting_definitions.specs.Square.{Extent, IsSquare}
+use Rattle.siting_definitions.specs.Square.{Extent}
 use Rattle.site_model.specs.Box.{square_of_box}
 use Rattle.site_model.proofs.Rooted.{IsSquare-over, IsSquare-by}
 use Rattle.site_model.proofs.root.square_over.Goals as goal

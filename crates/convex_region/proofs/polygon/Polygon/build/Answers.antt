@@ -1,4 +1,4 @@
-use Rattle.std.proofs.Common.{◌≡◌, ◌∙◌, ℕ, ◌<◌, ◌≤◌, All, length, sym, ap, subst, arith, rules}
+use Rattle.std.proofs.Common.{◌≡◌, ◌∙◌, ℕ, All, length, ap, subst, arith, rules}
 use Rattle.siting_definitions.specs.Instance.{IsPlace, IsPolygon}
 use Rattle.siting_definitions.specs.Excluded.{bounds_of}
 use Rattle.convex_region.proofs.Edges.{length-turned, IsConvex-by_dents}

@@ -1,4 +1,4 @@
-use Rattle.std.proofs.Common.{◌≡◌, ◌∙◌, FitsSigned, rules}
+use Rattle.std.proofs.Common.{◌∙◌, FitsSigned, rules}
 use mir.Syntax.{w128}
 use Rattle.siting_definitions.specs.Point.{point_of}
 use Rattle.convex_region.proofs.Edges.{beside, each_edge_more, covers_all, covers_fails, side_not_below, side_below}

@@ -1,4 +1,4 @@
-use Rattle.std.proofs.Common.{◌≡◌, ◌∙◌, FitsSigned, rules}
+use Rattle.std.proofs.Common.{◌∙◌, FitsSigned, rules}
 use mir.Syntax.{w128}
 use Rattle.siting_definitions.specs.Point.{point_of}
 use Rattle.convex_region.proofs.Edges.{to_the_left, each_edge_more, covers_inside_all, covers_inside_fails, side_above, side_not_above}

@@ -1,0 +1,158 @@
+//! Coarse and fine bounds of squares over 4,096 demand points against the same formulas in ordinary Rust.
+
+use crate::numbers::{best_of, Numbers};
+
+#[repr(C)]
+#[derive(Clone, Copy, Debug)]
+struct PointRow {
+    x: i32,
+    y: i32,
+    w: i32,
+    cutoff: i32,
+}
+
+#[repr(C)]
+#[derive(Clone, Copy, Debug)]
+struct SquareRow {
+    x: i64,
+    y: i64,
+    level: u8,
+}
+
+type Bounds = unsafe extern "C" fn(*const PointRow, usize, *const SquareRow, usize, *mut i64, usize) -> bool;
+
+unsafe extern "C" {
+    fn bsss_bench_coarse(
+        points: *const PointRow,
+        count: usize,
+        squares: *const SquareRow,
+        square_count: usize,
+        bounds: *mut i64,
+        bound_count: usize,
+    ) -> bool;
+    fn bsss_bench_fine(
+        points: *const PointRow,
+        count: usize,
+        squares: *const SquareRow,
+        square_count: usize,
+        bounds: *mut i64,
+        bound_count: usize,
+    ) -> bool;
+}
+
+/// A demand point as the proved code keeps it.
+struct DemandPt {
+    x: i32,
+    y: i32,
+    w: i64,
+    cutoff: Option<i32>,
+}
+
+fn demand_points(rows: &[PointRow]) -> Vec<DemandPt> {
+    rows.iter()
+        .map(|row| DemandPt { x: row.x, y: row.y, w: row.w as i64, cutoff: (row.cutoff != 0).then_some(row.cutoff) })
+        .collect()
+}
+
+fn near2(square: SquareRow, d: &DemandPt) -> u128 {
+    let side = 1i64 << square.level;
+    let outside = |low: i64, a: i64| (low - a).max(a - low - side).max(0) as u128;
+    let (dx, dy) = (outside(square.x, 65536 * d.x as i64), outside(square.y, 65536 * d.y as i64));
+    dx * dx + dy * dy
+}
+
+fn far2(square: SquareRow, d: &DemandPt) -> u128 {
+    let side = 1i64 << square.level;
+    let to_far_end = |low: i64, a: i64| low.abs_diff(a).max((low + side).abs_diff(a)) as u128;
+    let (fx, fy) = (to_far_end(square.x, 65536 * d.x as i64), to_far_end(square.y, 65536 * d.y as i64));
+    fx * fx + fy * fy
+}
+
+fn ceil_root(m: u128) -> u128 {
+    let root = m.isqrt();
+    root + (root * root < m) as u128
+}
+
+fn capped(radius: u128, units: u128, cutoff: Option<i32>) -> i128 {
+    cutoff.map_or(radius, |c| radius.min(units * c as u128)) as i128
+}
+
+#[inline(never)]
+fn std_coarse(points: &[DemandPt], square: SquareRow) -> i64 {
+    let mut total = 0;
+    for d in points {
+        let root = if d.w > 0 { near2(square, d).isqrt() } else { ceil_root(far2(square, d)) };
+        total += d.w as i128 * capped(root, 1 << 16, d.cutoff);
+    }
+    total as i64
+}
+
+#[inline(never)]
+fn std_fine(points: &[DemandPt], square: SquareRow) -> i64 {
+    let mut total = 0;
+    for d in points {
+        let root = if d.w > 0 { (near2(square, d) << 32).isqrt() } else { ceil_root(far2(square, d) << 32) };
+        total += d.w as i128 * capped(root, 1 << 32, d.cutoff);
+    }
+    (total >> 16) as i64
+}
+
+fn call(bounds: Bounds, points: &[PointRow], squares: &[SquareRow], out: &mut [i64]) {
+    // SAFETY: each pointer goes with its length, and the call writes to `out` alone.
+    let made = unsafe {
+        bounds(points.as_ptr(), points.len(), squares.as_ptr(), squares.len(), out.as_mut_ptr(), out.len())
+    };
+    assert!(made, "the rows make an instance");
+}
+
+fn points(numbers: &mut Numbers, repelling: bool, cutoffs: bool) -> Vec<PointRow> {
+    let coordinate = |numbers: &mut Numbers| (numbers.next() % 2_000_001) as i32 - 1_000_000;
+    (0..4096)
+        .map(|_| {
+            let size = (numbers.next() % 3906) as i32 + 1;
+            let cutoff = if cutoffs { (numbers.next() % 4_000_001) as i32 } else { 0 };
+            PointRow {
+                x: coordinate(numbers),
+                y: coordinate(numbers),
+                w: if repelling && numbers.next() % 2 == 0 { -size } else { size },
+                cutoff,
+            }
+        })
+        .collect()
+}
+
+fn squares(numbers: &mut Numbers) -> Vec<SquareRow> {
+    let corner = |numbers: &mut Numbers| (numbers.next() % (1 << 37)) as i64 - (1 << 36);
+    (0..64)
+        .map(|_| SquareRow { x: corner(numbers), y: corner(numbers), level: (numbers.next() % 37) as u8 })
+        .collect()
+}
+
+pub fn measure() {
+    let mut numbers = Numbers::new();
+    println!("bounds over 4,096 points, ns a point: ours, the same formula by u128::isqrt");
+    for (what, repelling, cutoffs) in
+        [("attracting points", false, false), ("mixed signs", true, false), ("mixed signs and cutoffs", true, true)]
+    {
+        let rows = points(&mut numbers, repelling, cutoffs);
+        let demand = demand_points(&rows);
+        let squares = squares(&mut numbers);
+        for (name, ours, theirs) in [
+            ("coarse", bsss_bench_coarse as Bounds, std_coarse as fn(&[DemandPt], SquareRow) -> i64),
+            ("fine  ", bsss_bench_fine as Bounds, std_fine),
+        ] {
+            let mut bounds = vec![0; squares.len()];
+            call(ours, &rows, &squares, &mut bounds);
+            for (square, bound) in squares.iter().zip(&bounds) {
+                assert_eq!(*bound, theirs(&demand, *square), "{name} bound of {square:?}");
+            }
+            let per_point = 1.0 / (rows.len() * squares.len()) as f64;
+            let our_time = best_of(20, &[()], |()| {
+                call(ours, &rows, &squares, &mut bounds.clone());
+                0
+            }) * per_point;
+            let their_time = best_of(4, &squares, |square| theirs(&demand, square) as u64) / rows.len() as f64;
+            println!("  {name}, {what}: {our_time:.1}, {their_time:.1}");
+        }
+    }
+}

@@ -1,0 +1,132 @@
+//! Bounds of squares.
+
+ghost use Rattle.std.specs.Prelude.{◌≡◌, ◌≤◌, length, All, IfSome, unsigned_abs};
+ghost use Rattle.siting_definitions.specs.Instance.{DemandPt};
+
+use convex_region::Polygon;
+use dyadic_square::Square;
+use exact_geometry::Place;
+use objectives::{coarse, fine};
+use site_model::{DemandPt, Instance, Kind};
+use std::alloc::Global;
+
+/// A demand point with a weight of at most 3,906 in size, so that 4,096 of them make an instance. A cutoff of 0 is none.
+#[repr(C)]
+#[derive(Clone, Copy)]
+pub struct PointRow {
+    /// The coordinate to the right, in lengths.
+    pub x: i32,
+    /// The coordinate upwards, in lengths.
+    pub y: i32,
+    /// The weight.
+    pub w: i32,
+    /// The cutoff, in lengths.
+    pub cutoff: i32,
+}
+
+/// A square with a corner of at most 2^37 grid units in size both ways.
+#[repr(C)]
+#[derive(Clone, Copy)]
+pub struct SquareRow {
+    /// The left border, in grid units.
+    pub x: i64,
+    /// The lower border, in grid units.
+    pub y: i64,
+    /// The level.
+    pub level: u8,
+}
+
+/// Writes the coarse bound of each square, and answers whether the rows make an instance and squares.
+#[unsafe(no_mangle)]
+pub extern "C" fn bsss_bench_coarse(
+    alloc: Global,
+    points: &[PointRow],
+    squares: &[SquareRow],
+    bounds: &mut [i64],
+) -> bool {
+    let Some(instance) = instance_of(alloc, points) else {
+        return false;
+    };
+    for (row, bound) in squares.iter().zip(bounds.iter_mut()) {
+        let Some(square) = square_of(*row) else {
+            return false;
+        };
+        *bound = coarse(&instance, square);
+    }
+    true
+}
+
+/// Writes the fine bound of each square, and answers whether the rows make an instance and squares.
+#[unsafe(no_mangle)]
+pub extern "C" fn bsss_bench_fine(
+    alloc: Global,
+    points: &[PointRow],
+    squares: &[SquareRow],
+    bounds: &mut [i64],
+) -> bool {
+    let Some(instance) = instance_of(alloc, points) else {
+        return false;
+    };
+    for (row, bound) in squares.iter().zip(bounds.iter_mut()) {
+        let Some(square) = square_of(*row) else {
+            return false;
+        };
+        *bound = fine(&instance, square);
+    }
+    true
+}
+
+fn square_of(row: SquareRow) -> Option<Square> {
+    let limit = 137_438_953_472;
+    if row.level <= 37 && row.x.unsigned_abs() <= limit && row.y.unsigned_abs() <= limit {
+        Some(Square::of(row.x, row.y, row.level))
+    } else {
+        None
+    }
+}
+
+fn point_of(row: PointRow) -> Option<DemandPt>
+    ensures { IfSome result (λ d. unsigned_abs d.w ≤ 3906) }
+{
+    if row.x.unsigned_abs() > 1_000_000 || row.y.unsigned_abs() > 1_000_000 {
+        return None;
+    }
+    if row.w == 0 || row.w.unsigned_abs() > 3906 || row.cutoff < 0 || row.cutoff > 4_000_000 {
+        return None;
+    }
+    let cutoff = if row.cutoff == 0 {
+        None
+    } else {
+        Some(row.cutoff)
+    };
+    Some(DemandPt::of(row.x, row.y, row.w as i64, cutoff))
+}
+
+fn points_of(alloc: Global, rows: &[PointRow]) -> Option<Vec<DemandPt>>
+    ensures count { IfSome result (λ v. length v.items ≡ length rows.now) }
+    ensures small { IfSome result (λ v. All (λ (d : DemandPt). unsigned_abs d.w ≤ 3906) v.items) }
+{
+    let mut points = Vec::new(alloc);
+    for row in rows {
+        points.push(point_of(*row)?).ok()?;
+    }
+    Some(points)
+}
+
+fn instance_of(alloc: Global, rows: &[PointRow]) -> Option<Instance> {
+    if rows.is_empty() || rows.len() > 4096 {
+        return None;
+    }
+    let points = points_of(alloc, rows)?;
+    let corners = [Place::of(0, 0), Place::of(1, 0), Place::of(0, 1)];
+    let mut permitted = Vec::new(alloc);
+    permitted
+        .push(Polygon::build(alloc, &corners).ok()?)
+        .ok()?;
+    Some(Instance::build(
+        Kind::Sum,
+        points,
+        permitted,
+        Vec::new(alloc),
+    ))
+}

@@ -1,0 +1,40 @@
+//! The centre site of a square.
+
+ghost use Rattle.std.specs.Prelude.{◌≡◌, ℤ, IsTrue, IfSome, option_map};
+ghost use Rattle.siting_definitions.specs.Point as points;
+ghost use Rattle.siting_definitions.specs.Point.{point_of};
+ghost use Rattle.siting_definitions.specs.Answer.{IsSite};
+ghost use Rattle.siting_definitions.specs.Permitted.{permits};
+ghost use Rattle.siting_definitions.specs.Sites.{centre_cost, centre_site_of};
+
+use dyadic_square::Square;
+use exact_geometry::Pt;
+use objectives::cost_of;
+use site_model::{Instance, Site};
+
+/// The centre of a square with its upper cost, in cost units: none exactly where the square's level is 0 or its centre isn't
+/// permitted.
+pub fn centre_site(instance: &Instance, sq: Square) -> Option<(Site, i64)>
+    ensures site { option_map (λ (b : points.Pt × ℤ). b.0) result ≡ centre_site_of instance.now sq }
+    ensures cost { option_map (λ (b : points.Pt × ℤ). b.1) result ≡ centre_cost instance.now sq }
+    ensures permitted { IfSome result (λ b. IsTrue (permits instance.now (point_of b.0))) }
+{
+    if sq.level == 0 {
+        return None;
+    }
+    let centre = sq.centre();
+    if !instance.permits(centre) {
+        return None;
+    }
+    let site = site_at(centre);
+    let cost = cost_of(instance, site).1;
+    Some((site, cost))
+}
+
+/// The site at a grid point.
+fn site_at(pt: Pt) -> Site
+    requires { IsSite pt }
+    ensures { result ≡ pt }
+{
+    Site::of(pt.x, pt.y)
+}

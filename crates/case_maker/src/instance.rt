@@ -1,0 +1,26 @@
+//! Making an instance.
+
+ghost use Rattle.std.specs.Prelude.{◌≡◌, ◌≤◌, IfOk};
+ghost use Rattle.case_maker.specs.Made.{made};
+
+use crate::memory::NoMemory;
+use crate::points::make_points;
+use crate::square::one_square;
+use site_model::{Instance, Kind};
+use std::alloc::Global;
+
+/// The instance that a seed of at most 2,147,483,647 makes, with 1 to 4,096 demand points: their coordinates are 0 to
+/// 98,301 lengths and their weights 1 to 1,000. The square from (0, 0) to (100000, 100000) is permitted, and the one from
+/// (40000, 40000) to (60000, 60000) forbidden.
+#[tactic(auto, unfolding(crate::specs::Made::made))]
+pub fn make_instance(alloc: Global, seed: u32, points: u32) -> Result<Instance, NoMemory>
+    requires seed { seed ≤ 2147483647 }
+    requires few { 1 ≤ points }
+    requires many { points ≤ 4096 }
+    ensures { IfOk result (λ i. i ≡ made seed points) }
+{
+    let points = make_points(alloc, seed, points)?;
+    let permitted = one_square(alloc, 0, 100000)?;
+    let forbidden = one_square(alloc, 40000, 60000)?;
+    Ok(Instance::build(Kind::Sum, points, permitted, forbidden))
+}

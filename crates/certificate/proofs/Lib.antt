@@ -1,0 +1,3 @@
+pub mod ClaimsLemmas
+mod TextLemmas
+mod Written

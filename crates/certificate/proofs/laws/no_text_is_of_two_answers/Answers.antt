@@ -1,0 +1,5 @@
+use Rattle.certificate.proofs.TextLemmas.{answer_text_injective}
+use Rattle.certificate.proofs.laws.no_text_is_of_two_answers.Goals as goal
+
+pub returns : goal.returns
+returns c = answer_text_injective

@@ -1,0 +1,41 @@
+//! The head of an answer.
+
+use site_model::{Instance, Site};
+use siting_definitions::Word;
+use std::marker::Model;
+
+/// An answer without its node lines.
+#[derive(Drop)]
+pub struct Head {
+    /// The instance that it answers.
+    pub instance: Instance,
+    /// The gap asked, in cost units, 0 to 2^62.
+    pub gap: i64,
+    /// How many leases might be given, 0 to 1,000,000.
+    pub budget: u32,
+    /// How many squares might be open, 1 to 1,000,000.
+    pub pool: u32,
+    /// The site, if there is one.
+    pub site: Option<Site>,
+    /// The lower and the upper cost of the site, in cost units; none exactly where there is no site.
+    pub cost: Option<(i64, i64)>,
+    /// The lower bound over all permitted points, in cost units; none where no point is permitted.
+    pub bound: Option<i64>,
+    /// How the answer ended.
+    pub word: Word,
+    /// The open squares when the pool was full, and 0 where it wasn't, at most 1,000,000.
+    pub open_count: u32,
+    /// How many leases were given, at most 1,000,000.
+    pub leases: u32,
+}
+
+impl Model for Head {
+    ghost use Rattle.siting_definitions.specs.Answer as answers;
+    ghost use Rattle.certificate.specs.Inside.{best_of, Fits};
+
+    ghost Value = { answers.Head };
+
+    ghost view = { λ a. record { instance = a.instance; gap = a.gap; budget = a.budget; pool = a.pool; best = best_of a.site a.cost; bound = a.bound; word = a.word; open_count = a.open_count; leases = a.leases } };
+
+    ghost invariant = { λ a. Fits (record { instance = a.instance; gap = a.gap; budget = a.budget; pool = a.pool; best = best_of a.site a.cost; bound = a.bound; word = a.word; open_count = a.open_count; leases = a.leases }) a.site a.cost };
+}

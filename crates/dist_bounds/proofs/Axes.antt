@@ -1,0 +1,92 @@
+-- What the code computes on one axis is what the definitions say of it.
+use Rattle.std.proofs.Common.{◌≡◌, ℕ, ◌+◌, ◌*◌, ◌^◌, ◌≤◌, max, ℤ, pos, ◌+ℤ◌, ◌-ℤ◌, ◌*ℤ◌, ◌≤ℤ◌, w32, w64, to_z, of_z, ap, ◌∙◌, arith}
+use Rattle.std.specs.Prelude.{unsigned_abs}
+use Rattle.std.specs.Int.{int_max}
+use Rattle.std.proofs.lemmas.Int.{ints, clamps}
+use borrow.Author.Differences.{same_in}
+use Rattle.siting_definitions.specs.Instance.{IsCoordinate}
+use Rattle.siting_definitions.specs.Point.{Place, Pt, point_of}
+use Rattle.siting_definitions.specs.Cost.{distance2}
+use Rattle.siting_definitions.specs.Square.{Square}
+use Rattle.siting_definitions.specs.Bounds.{near_on, far_on, near2, far2}
+
+-- a number that was passed to a function
+abbrev pub passed : ℤ → ℤ
+passed z = to_z w64 (of_z w64 z)
+
+-- the end of a span, as it is passed
+abbrev pub end_passed : ℤ → ℤ → ℤ
+end_passed low side = passed (passed low +ℤ passed side)
+
+-- a coordinate in lengths that was passed, in grid units
+pub coordinate-passed : (a z : ℤ) → IsCoordinate z → a ≡ pos 65536 *ℤ to_z w32 (of_z w32 z) → a ≡ pos 65536 *ℤ z
+coordinate-passed a z small e = e ∙ same_in _ _ (omega (arith, ints))
+
+way-passed : (a b : ℤ) → unsigned_abs a ≤ 2 ^ 38 → unsigned_abs b ≤ 2 ^ 38 → passed (passed a -ℤ passed b) ≡ a -ℤ b
+way-passed a b h k = same_in _ _ (omega (arith, ints))
+
+greatest_small : (a b : ℤ) → unsigned_abs a ≤ 2 ^ 40 → unsigned_abs b ≤ 2 ^ 40 → unsigned_abs (int_max a b) ≤ 2 ^ 40
+greatest_small a b h k = omega (arith, ints, clamps)
+
+small-passed : (a : ℤ) → unsigned_abs a ≤ 2 ^ 40 → passed a ≡ a
+small-passed a h = same_in _ _ (omega (arith, ints))
+
+way_small : (a b : ℤ) → unsigned_abs a ≤ 2 ^ 38 → unsigned_abs b ≤ 2 ^ 38 → unsigned_abs (a -ℤ b) ≤ 2 ^ 40
+way_small a b h k = omega (arith, ints)
+
+int_max-comm : (a b : ℤ) → int_max a b ≡ int_max b a
+int_max-comm a b = same_in _ _ (omega (arith, ints, clamps))
+
+-- the greatest of two ways and 0, as it is computed
+pub greatest_way : (low high a m n : ℤ) → unsigned_abs low ≤ 2 ^ 38 → unsigned_abs high ≤ 2 ^ 38 → unsigned_abs a ≤ 2 ^ 38 → m ≡ int_max (passed (passed low -ℤ passed a)) (passed (passed a -ℤ passed high)) → n ≡ int_max (passed m) (pos 0) → unsigned_abs (passed n) ≡ unsigned_abs (int_max (pos 0) (int_max (low -ℤ a) (a -ℤ high)))
+greatest_way low high a m n l h s em en =
+    let greater = int_max (low -ℤ a) (a -ℤ high) in
+    let is : m ≡ greater = em ∙ rw (way-passed low a l s, way-passed a high s h) in
+    let small : unsigned_abs greater ≤ 2 ^ 40 = greatest_small (low -ℤ a) (a -ℤ high) (way_small low a l s) (way_small a high s h) in
+    let is_too : n ≡ int_max (pos 0) greater = en ∙ ap (λ z. int_max (passed z) (pos 0)) is ∙ ap (λ z. int_max z (pos 0)) (small-passed greater small) ∙ int_max-comm greater (pos 0) in
+    let zero_small : unsigned_abs (pos 0) ≤ 2 ^ 40 = omega arith in
+    let same = small-passed (int_max (pos 0) greater) (greatest_small (pos 0) greater zero_small small) in
+    ap (λ z. unsigned_abs (passed z)) is_too ∙ ap (λ z. unsigned_abs z) same
+
+pub record IsSpan (low side : ℤ) (len : ℕ) : Type 0 where
+  pub length : side ≡ pos len
+  pub short : side ≤ℤ pos (2 ^ 37)
+  pub start : pos 0 ≤ℤ (low +ℤ pos (2 ^ 38))
+  pub stop : (low +ℤ pos len) ≤ℤ pos (2 ^ 38)
+
+start-passed : (low side : ℤ) (len : ℕ) → IsSpan low side len → passed low ≡ low
+start-passed low side len h = omega (arith, ints)
+
+pub end-passed : (low side : ℤ) (len : ℕ) → IsSpan low side len → end_passed low side ≡ low +ℤ pos len
+end-passed low side len h = omega (arith, ints)
+
+pub end-small : (low side : ℤ) (len : ℕ) → IsSpan low side len → unsigned_abs (end_passed low side) ≤ 2 ^ 38
+end-small low side len h = omega (arith, ints)
+
+place-passed : (a : ℤ) → unsigned_abs a ≤ 65536000000 → passed a ≡ a
+place-passed a h = omega (arith, ints)
+
+pub near-passed : (low side a : ℤ) (len u : ℕ) → IsSpan low side len → unsigned_abs a ≤ 65536000000 → u ≡ unsigned_abs (int_max (pos 0) (int_max (passed low -ℤ passed a) (passed a -ℤ end_passed low side))) → u ≡ unsigned_abs (near_on low len a)
+near-passed low side a len u span small e =
+    e ∙ rw (end-passed low side len span, start-passed low side len span, place-passed a small)
+
+pub far-passed : (low side a : ℤ) (len u : ℕ) → IsSpan low side len → unsigned_abs a ≤ 65536000000 → u ≡ max (unsigned_abs (passed low -ℤ passed a)) (unsigned_abs (end_passed low side -ℤ passed a)) → u ≡ far_on low len a
+far-passed low side a len u span small e =
+    e ∙ rw (end-passed low side len span, start-passed low side len span, place-passed a small)
+
+-- ---- both axes
+pub near2-from : (s : Square) (a : Place) (ax ay : ℤ) (u v r : ℕ) → ax ≡ pos 65536 *ℤ a.x → ay ≡ pos 65536 *ℤ a.y → u ≡ unsigned_abs (near_on s.x (2 ^ s.level) ax) → v ≡ unsigned_abs (near_on s.y (2 ^ s.level) ay) → r ≡ u * u + v * v → r ≡ near2 s a
+unfolding near2
+near2-from s a ax ay u v r ex ey eu ev e = cc
+
+pub far2-from : (s : Square) (a : Place) (ax ay : ℤ) (u v r : ℕ) → ax ≡ pos 65536 *ℤ a.x → ay ≡ pos 65536 *ℤ a.y → u ≡ far_on s.x (2 ^ s.level) ax → v ≡ far_on s.y (2 ^ s.level) ay → r ≡ u * u + v * v → r ≡ far2 s a
+unfolding far2
+far2-from s a ax ay u v r ex ey eu ev e = cc
+
+-- ---- the distance to a grid point
+pub distance_passed : (z a : ℤ) (u : ℕ) → unsigned_abs z ≤ 2 ^ 38 → unsigned_abs a ≤ 65536000000 → u ≡ unsigned_abs (passed z -ℤ passed a) → u ≡ unsigned_abs (z -ℤ a)
+distance_passed z a u h k e = e ∙ omega (arith, ints)
+
+pub distance2-from : (z : Pt) (a : Place) (ax ay : ℤ) (u v r : ℕ) → ax ≡ pos 65536 *ℤ a.x → ay ≡ pos 65536 *ℤ a.y → u ≡ unsigned_abs (z.x -ℤ ax) → v ≡ unsigned_abs (z.y -ℤ ay) → r ≡ u * u + v * v → r ≡ distance2 a (point_of z)
+unfolding distance2
+distance2-from z a ax ay u v r ex ey eu ev e = cc

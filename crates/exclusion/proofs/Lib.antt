@@ -1,0 +1,2 @@
+pub mod CornerLemmas
+pub mod ExcludedLemmas

@@ -1,0 +1,10 @@
+//! Which squares hold no permitted point, by a test on their corners.
+#![tactic(auto)]
+
+mod laws;
+mod test;
+
+pub use laws::{
+    an_excluded_square_holds_no_permitted_point, quarters_of_an_excluded_square_are_excluded,
+};
+pub use test::excluded;
