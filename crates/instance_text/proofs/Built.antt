@@ -17,7 +17,7 @@ length-turning : (b : Bool) (v : Place) (vs : List Place) → length (cond b (v 
 length-turning true v vs = omega (arith, length-reverse vs)
 length-turning false v vs = refl
 
-length-turned : (vs : List Place) → length (turned vs) ≡ length vs
+pub length-turned : (vs : List Place) → length (turned vs) ≡ length vs
 unfolding turned
 length-turned [] = cond_both (int_lt (doubled_area []) (pos 0)) [] [] (λ (vs : List Place). length vs ≡ 0) (λ _. refl) (λ _. refl)
 length-turned (v ∷ vs) = length-turning (int_lt (doubled_area (v ∷ vs)) (pos 0)) v vs

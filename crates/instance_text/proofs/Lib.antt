@@ -5,3 +5,4 @@ mod Places
 mod Limits
 mod Built
 mod Written
+pub mod ReadLawful

@@ -25,7 +25,7 @@ IsLawful-nothing = record {
 }
 
 -- one more point leaves what was found whole
-whole_push : (phase : Phase) (found : Found) (points : List DemandPt) → length found.points ≤ length points → IsWhole phase found → IsWhole phase (record found { points = points })
+pub whole_push : (phase : Phase) (found : Found) (points : List DemandPt) → length found.points ≤ length points → IsWhole phase found → IsWhole phase (record found { points = points })
 whole_push Start found points more whole = tt
 whole_push (Body cutoffs) found points more whole = tt
 whole_push (Ended kind) found points more whole = (omega (arith, whole.0), whole.1)
