@@ -1,0 +1,4 @@
+pub mod UnsplitLemmas
+pub mod OutcomeLemmas
+pub mod GapLemmas
+pub mod SolveLemmas

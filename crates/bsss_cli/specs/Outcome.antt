@@ -1,0 +1,140 @@
+-- What a run of the program answers and writes.
+use Rattle.std.specs.Prelude.{◌≡◌, ℕ, ◌<◌, ◌≤◌, Bool, false, cond, ◌&&◌, ◌==◌, List, length, Option, Some, None, IfSome, Result, Ok, Err, ⊤}
+use Rattle.port_io.specs.Bytes.{Took, TookFront}
+use Rattle.port_io.specs.Output.{SinkView}
+use Rattle.siting_definitions.specs.declared.Word.{Word}
+use Rattle.siting_definitions.specs.declared.Word.TheVariants as words
+use Rattle.siting_definitions.specs.Instance.{Instance}
+use Rattle.siting_definitions.specs.InstanceText.{instance_text}
+use Rattle.siting_definitions.specs.AnswerText.{answer_text}
+use Rattle.siting_definitions.specs.Sites.{opening_cost, gap_of}
+use Rattle.siting_definitions.specs.Answer.{Answer, IsValid, IsWorkedBy}
+use Rattle.siting_definitions.specs.Claims.{Claims}
+use Rattle.instance_text.specs.Reading.{reading}
+use Rattle.case_maker.specs.Made.{made}
+use Rattle.bsss_cli.specs.declared.words.Settings.{Settings}
+use Rattle.bsss_cli.specs.declared.words.Command.{Command}
+use Rattle.bsss_cli.specs.declared.words.Command.TheVariants.{Solve, Check, Make, Trial}
+use Rattle.bsss_cli.specs.declared.status.Status.{Status}
+use Rattle.bsss_cli.specs.declared.status.Status.TheVariants.{Solved, Made, Usage, NotBuilt, BadInstance, ReadFault, WriteFault, NoMemory, TooLong, PoolFull, Budget, Floor, Empty}
+use Rattle.bsss_cli.specs.Texts.{instance_limit, bad_words, not_built, too_long, bad_instance}
+
+-- whether a solve is built: with one worker and nothing to lease
+abbrev pub is_built : Settings → Bool
+is_built s = (s.budget == 0) && (s.workers == 1)
+
+-- the answer is one to the instance, under the settings, and ends with the word
+pub record IsAnswerTo (i : Instance) (s : Settings) (end : Word) (a : Answer) : Type 0 where
+  pub instance : a.head.instance ≡ i
+  pub gap : a.head.gap ≡ gap_of s.gap (opening_cost i)
+  pub budget : a.head.budget ≡ s.budget
+  pub pool : a.head.pool ≡ s.pool
+  pub word : a.head.word ≡ end
+  pub claims : Claims a.head
+  pub valid : IsValid a
+  pub worked : IsWorkedBy a s.workers
+
+-- the bytes are an instance text, and the text written is that of an answer to its instance
+pub record Solves (s : Settings) (bytes : List ℕ) (word : Word) (text : List ℕ) : Type 0 where
+  pub short : length bytes ≤ instance_limit
+  pub instance : Instance
+  pub read : reading bytes ≡ Ok instance
+  pub answer : Answer
+  pub answers : IsAnswerTo instance s word answer
+  pub written : text ≡ answer_text answer
+
+-- What a solve may answer, and the text that it writes then, where the source tells its bytes: each status exactly where its
+-- condition on the bytes holds.
+abbrev pub SolveAnswers : Settings → Option (List ℕ) → Status → List ℕ → Type 0
+SolveAnswers s told Solved text = IfSome told (λ bytes. Solves s bytes words.Solved text)
+SolveAnswers s told PoolFull text = IfSome told (λ bytes. Solves s bytes words.PoolFull text)
+SolveAnswers s told Budget text = IfSome told (λ bytes. Solves s bytes words.Budget text)
+SolveAnswers s told Floor text = IfSome told (λ bytes. Solves s bytes words.Floor text)
+SolveAnswers s told Empty text = IfSome told (λ bytes. Solves s bytes words.Empty text)
+SolveAnswers s told (BadInstance number line) text =
+    (text ≡ bad_instance number line)
+    × IfSome told (λ bytes. (length bytes ≤ instance_limit) × (reading bytes ≡ Err (record { number = number; line = line })))
+SolveAnswers s told TooLong text = (text ≡ too_long) × IfSome told (λ bytes. instance_limit < length bytes)
+SolveAnswers s told _ text = ⊥
+
+-- what a run with this command may answer, and the text that it writes then
+abbrev pub Answers : Option Command → Option (List ℕ) → Status → List ℕ → Type 0
+Answers None told status text = (status ≡ Usage) × (text ≡ bad_words)
+Answers (Some (Solve s)) told status text = cond (is_built s) (SolveAnswers s told status text) ((status ≡ NotBuilt) × (text ≡ not_built))
+Answers (Some Check) told status text = (status ≡ NotBuilt) × (text ≡ not_built)
+Answers (Some (Make seed points)) told status text = (status ≡ Made) × (text ≡ instance_text (made seed points))
+Answers (Some (Trial seed points s)) told status text = (status ≡ NotBuilt) × (text ≡ not_built)
+
+-- whether a run with this command reads its source
+abbrev pub reads : Option Command → Bool
+reads None = false
+reads (Some (Solve s)) = is_built s
+reads (Some Check) = false
+reads (Some (Make seed points)) = false
+reads (Some (Trial seed points s)) = false
+
+-- the sink took the whole text of an answer
+pub record Finished (command : Option Command) (told : Option (List ℕ)) (before after : SinkView) (status : Status) : Type 0 where
+  pub text : List ℕ
+  pub answers : Answers command told status text
+  pub took : Took before.room before.taken after.taken text
+
+-- the sink took a front of the text of what the run was to answer
+pub record CutShort (command : Option Command) (told : Option (List ℕ)) (before after : SinkView) : Type 0 where
+  pub status : Status
+  pub text : List ℕ
+  pub answers : Answers command told status text
+  pub took : TookFront before.room before.taken after.taken text
+
+-- What the sink took, by the status: nothing after a fault of reading and after want of memory, a front of a text after a
+-- fault of writing, and else the whole text of the answer.
+abbrev pub Writes : Option Command → Option (List ℕ) → SinkView → SinkView → Status → Type 0
+Writes command told before after ReadFault = after.taken ≡ before.taken
+Writes command told before after NoMemory = after.taken ≡ before.taken
+Writes command told before after WriteFault = CutShort command told before after
+Writes command told before after status = Finished command told before after status
+
+-- a status that comes only after the source was read to its end
+abbrev pub HasReadAll : Status → Type 0
+HasReadAll Solved = ⊤
+HasReadAll Made = ⊥
+HasReadAll Usage = ⊥
+HasReadAll NotBuilt = ⊥
+HasReadAll (BadInstance number line) = ⊤
+HasReadAll ReadFault = ⊥
+HasReadAll WriteFault = ⊥
+HasReadAll NoMemory = ⊥
+HasReadAll TooLong = ⊥
+HasReadAll PoolFull = ⊤
+HasReadAll Budget = ⊤
+HasReadAll Floor = ⊤
+HasReadAll Empty = ⊤
+
+-- the status of an answer that ends with this word
+abbrev pub status_of : Word → Status
+status_of words.Solved = Solved
+status_of words.PoolFull = PoolFull
+status_of words.Budget = Budget
+status_of words.Floor = Floor
+status_of words.Empty = Empty
+
+-- the status of a run that wrote, or failed to write, what it was to write with this status
+abbrev pub reported : {T E : Type 0} → Result T E → Status → Status
+reported (Ok value) status = status
+reported (Err error) status = WriteFault
+
+-- the code with which the program ends
+abbrev pub code_of : Status → ℕ
+code_of Solved = 0
+code_of Made = 0
+code_of Usage = 2
+code_of (BadInstance number line) = 3
+code_of NotBuilt = 4
+code_of ReadFault = 6
+code_of WriteFault = 7
+code_of NoMemory = 8
+code_of TooLong = 9
+code_of PoolFull = 10
+code_of Budget = 11
+code_of Floor = 12
+code_of Empty = 13

@@ -1,0 +1,18 @@
+//! The program: its words, its top call, and what it writes.
+#![tactic(auto)]
+
+mod answer;
+mod laws;
+mod output;
+mod run;
+mod status;
+#[cfg(test)]
+mod tests;
+mod words;
+
+pub use answer::gap_of;
+pub use laws::a_valid_answer_claims;
+pub use run::run_alone;
+pub use siting_definitions::GapRule;
+pub use status::Status;
+pub use words::{Argv, Command, NoMemory, Settings, parse_words, wants_team};

@@ -1,0 +1,88 @@
+//! How the program ends.
+
+ghost use Rattle.std.specs.Prelude.{◌≡◌};
+ghost use Rattle.bsss_cli.specs.Outcome.{code_of, status_of, reported};
+
+use port_io::WriteFault;
+use siting_definitions::Word;
+
+/// How a run of the program ended.
+#[derive(Clone, Copy, Debug, PartialEq, Eq)]
+pub enum Status {
+    /// The answer is solved: its upper cost is within the gap of its bound.
+    Solved,
+    /// The instance was made.
+    Made,
+    /// The words are no lawful command.
+    Usage,
+    /// The words are lawful, and this command isn't built yet.
+    NotBuilt,
+    /// The bytes are no instance text.
+    BadInstance {
+        /// Which fault, 1 to 17.
+        number: u8,
+        /// The line of the fault, from 1.
+        line: u64,
+    },
+    /// A read failed.
+    ReadFault,
+    /// A write failed.
+    WriteFault,
+    /// No memory was found.
+    NoMemory,
+    /// The input is longer than the limit.
+    TooLong,
+    /// The answer was stopped: the room for open squares was used up.
+    PoolFull,
+    /// The answer was stopped: the leases were used up.
+    Budget,
+    /// Squares of level 0 are left that aren't settled.
+    Floor,
+    /// No point is permitted.
+    Empty,
+}
+
+impl Status {
+    /// The code with which the program ends.
+    pub fn code(&self) -> u8
+        ensures { result ≡ code_of self.now }
+    {
+        match self {
+            Status::Solved | Status::Made => 0,
+            Status::Usage => 2,
+            Status::BadInstance { .. } => 3,
+            Status::NotBuilt => 4,
+            Status::ReadFault => 6,
+            Status::WriteFault => 7,
+            Status::NoMemory => 8,
+            Status::TooLong => 9,
+            Status::PoolFull => 10,
+            Status::Budget => 11,
+            Status::Floor => 12,
+            Status::Empty => 13,
+        }
+    }
+}
+
+/// The status of an answer that ends with this word.
+pub(crate) fn status_of(word: Word) -> Status
+    ensures { result ≡ status_of word }
+{
+    match word {
+        Word::Solved => Status::Solved,
+        Word::PoolFull => Status::PoolFull,
+        Word::Budget => Status::Budget,
+        Word::Floor => Status::Floor,
+        Word::Empty => Status::Empty,
+    }
+}
+
+/// The status, or `WriteFault` where what was to be written with it was not.
+pub(crate) fn report(written: Result<(), WriteFault>, status: Status) -> Status
+    ensures { result ≡ reported written status }
+{
+    match written {
+        Ok(()) => status,
+        Err(WriteFault) => Status::WriteFault,
+    }
+}
