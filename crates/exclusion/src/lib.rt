@@ -3,6 +3,8 @@
 
 mod laws;
 mod test;
+#[cfg(test)]
+mod tests;
 
 pub use laws::{
     an_excluded_square_holds_no_permitted_point, quarters_of_an_excluded_square_are_excluded,
