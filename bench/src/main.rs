@@ -2,9 +2,11 @@
 
 mod bounds;
 mod numbers;
+mod reading;
 mod roots;
 
 fn main() {
     roots::measure();
     bounds::measure();
+    reading::measure();
 }

@@ -4,4 +4,5 @@
 #![tactic(auto)]
 
 mod bounds;
+mod reading;
 mod roots;
