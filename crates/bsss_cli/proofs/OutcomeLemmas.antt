@@ -12,7 +12,7 @@ use Rattle.bsss_cli.specs.declared.words.Command.TheVariants.{Solve}
 use Rattle.bsss_cli.specs.declared.status.Status.{Status}
 use Rattle.bsss_cli.specs.declared.status.Status.TheVariants.{Solved, Made, Usage, NotBuilt, BadInstance, ReadFault, WriteFault, NoMemory, TooLong, PoolFull, Budget, Floor, Empty}
 use Rattle.bsss_cli.specs.Texts.{not_built}
-use Rattle.bsss_cli.specs.Outcome.{is_built, Solves, SolveAnswers, Answers, Finished, Writes, HasReadAll, status_of, reported}
+use Rattle.bsss_cli.specs.Outcome.{is_built, Solves, OfBytes, SolveAnswers, Answers, Finished, Writes, HasReadAll, status_of, reported}
 
 -- a status that isn't for a fault of the outside or want of memory
 abbrev pub IsPlain : Status → Type 0
@@ -69,7 +69,7 @@ plain-status_of words.Budget = tt
 plain-status_of words.Floor = tt
 plain-status_of words.Empty = tt
 
-pub solve-status_of : (s : Settings) (told : Option (List ℕ)) (text : List ℕ) (word : Word) → IfSome told (λ bytes. Solves s bytes word text) → SolveAnswers s told (status_of word) text
+pub solve-status_of : (s : Settings) (told : Option (List ℕ)) (text : List ℕ) (word : Word) → OfBytes told (λ bytes. Solves s bytes word text) → SolveAnswers s told (status_of word) text
 solve-status_of s told text words.Solved h = h
 solve-status_of s told text words.PoolFull h = h
 solve-status_of s told text words.Budget h = h
@@ -78,12 +78,12 @@ solve-status_of s told text words.Empty h = h
 
 -- ---- what a source tells
 forgotten : (s : Settings) (bytes : List ℕ) (status : Status) (text : List ℕ) → SolveAnswers s (Some bytes) status text → SolveAnswers s None status text
-forgotten s bytes Solved text h = tt
-forgotten s bytes PoolFull text h = tt
-forgotten s bytes Budget text h = tt
-forgotten s bytes Floor text h = tt
-forgotten s bytes Empty text h = tt
-forgotten s bytes (BadInstance number line) text h = (h.0, tt)
+forgotten s bytes Solved text h = (bytes, h)
+forgotten s bytes PoolFull text h = (bytes, h)
+forgotten s bytes Budget text h = (bytes, h)
+forgotten s bytes Floor text h = (bytes, h)
+forgotten s bytes Empty text h = (bytes, h)
+forgotten s bytes (BadInstance number line) text h = (h.0, (bytes, h.1))
 forgotten s bytes TooLong text h = (h.0, tt)
 forgotten s bytes Made text h = absurd h
 forgotten s bytes Usage text h = absurd h

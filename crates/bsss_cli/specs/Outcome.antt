@@ -43,17 +43,21 @@ pub record Solves (s : Settings) (bytes : List ℕ) (word : Word) (text : List �
   pub answers : IsAnswerTo instance s word answer
   pub written : text ≡ answer_text answer
 
--- What a solve may answer, and the text that it writes then, where the source tells its bytes: each status exactly where its
--- condition on the bytes holds.
+-- P of the bytes that a source tells, or of some bytes where it tells none
+abbrev pub OfBytes : Option (List ℕ) → (List ℕ → Type 0) → Type 0
+OfBytes None P = (bytes : List ℕ) × P bytes
+OfBytes (Some bytes) P = P bytes
+
+-- What a solve may answer, and the text that it writes then: each status exactly where its condition on the bytes holds.
 abbrev pub SolveAnswers : Settings → Option (List ℕ) → Status → List ℕ → Type 0
-SolveAnswers s told Solved text = IfSome told (λ bytes. Solves s bytes words.Solved text)
-SolveAnswers s told PoolFull text = IfSome told (λ bytes. Solves s bytes words.PoolFull text)
-SolveAnswers s told Budget text = IfSome told (λ bytes. Solves s bytes words.Budget text)
-SolveAnswers s told Floor text = IfSome told (λ bytes. Solves s bytes words.Floor text)
-SolveAnswers s told Empty text = IfSome told (λ bytes. Solves s bytes words.Empty text)
+SolveAnswers s told Solved text = OfBytes told (λ bytes. Solves s bytes words.Solved text)
+SolveAnswers s told PoolFull text = OfBytes told (λ bytes. Solves s bytes words.PoolFull text)
+SolveAnswers s told Budget text = OfBytes told (λ bytes. Solves s bytes words.Budget text)
+SolveAnswers s told Floor text = OfBytes told (λ bytes. Solves s bytes words.Floor text)
+SolveAnswers s told Empty text = OfBytes told (λ bytes. Solves s bytes words.Empty text)
 SolveAnswers s told (BadInstance number line) text =
     (text ≡ bad_instance number line)
-    × IfSome told (λ bytes. (length bytes ≤ instance_limit) × (reading bytes ≡ Err (record { number = number; line = line })))
+    × OfBytes told (λ bytes. (length bytes ≤ instance_limit) × (reading bytes ≡ Err (record { number = number; line = line })))
 SolveAnswers s told TooLong text = (text ≡ too_long) × IfSome told (λ bytes. instance_limit < length bytes)
 SolveAnswers s told _ text = ⊥
 
