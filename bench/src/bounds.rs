@@ -1,6 +1,7 @@
 //! Coarse and fine bounds of squares and costs of sites, over 4,096 demand points, against the same formulas in ordinary Rust.
 
 use crate::numbers::{best_of, Numbers};
+use crate::rows::SquareRow;
 use std::hint::black_box;
 
 #[repr(C)]
@@ -10,14 +11,6 @@ struct PointRow {
     y: i32,
     w: i32,
     cutoff: i32,
-}
-
-#[repr(C)]
-#[derive(Clone, Copy, Debug)]
-struct SquareRow {
-    x: i64,
-    y: i64,
-    level: u8,
 }
 
 type Bounds = unsafe extern "C" fn(*const PointRow, usize, *const SquareRow, usize, *mut i64, usize) -> bool;

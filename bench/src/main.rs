@@ -1,12 +1,19 @@
 //! Measures calls of the proved code against ordinary Rust, and compares their answers.
 
 mod bounds;
+mod exclusion;
 mod numbers;
 mod reading;
 mod roots;
+mod rows;
+mod solving;
+mod sorting;
 
 fn main() {
     roots::measure();
     bounds::measure();
+    exclusion::measure();
     reading::measure();
+    sorting::measure();
+    solving::measure();
 }

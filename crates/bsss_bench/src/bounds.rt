@@ -98,7 +98,7 @@ pub extern "C" fn bsss_bench_cost(
     true
 }
 
-fn square_of(row: SquareRow) -> Option<Square> {
+pub(crate) fn square_of(row: SquareRow) -> Option<Square> {
     let limit = 137_438_953_472;
     if row.level <= 37 && row.x.unsigned_abs() <= limit && row.y.unsigned_abs() <= limit {
         Some(Square::of(row.x, row.y, row.level))

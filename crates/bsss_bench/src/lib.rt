@@ -4,5 +4,7 @@
 #![tactic(auto)]
 
 mod bounds;
+mod excluding;
 mod reading;
 mod roots;
+mod sorting;

@@ -1,4 +1,3 @@
-pub mod UnsplitLemmas
 pub mod OutcomeLemmas
 pub mod GapLemmas
 pub mod SolveLemmas

@@ -1,26 +1,33 @@
--- The text of a solve that may lease nothing is that of an answer to its instance.
-use Rattle.std.proofs.Common.{◌≡◌, ℕ, ◌≤◌, ◌==◌, List, Ok, refl, sym, subst, true, arith}
-use Rattle.std.proofs.lemmas.Bool.{and_parts, eqb-true, false_from_ne_true}
-use Rattle.std.specs.Prelude.{All, length, IsTrue}
-use Rattle.siting_definitions.specs.Point.{Point}
+-- What a search ends with is an answer to its instance.
+use Rattle.std.proofs.Common.{◌≡◌, ℕ, ◌≤◌, ◌==◌, ℤ, List, Option, None, Some, Ok, refl, sym, ap, subst, true, cond, arith}
+use Rattle.std.proofs.lemmas.Bool.{eqb-true, false_from_ne_true}
+use Rattle.std.specs.Prelude.{⊤, length, IsTrue, MatchOption, option_map, unwrap_or}
+use borrow.Author.Differences.{ints}
+use Rattle.siting_definitions.specs.Point.{Pt, Point}
 use Rattle.siting_definitions.specs.Instance.{Instance, IsInstance}
 use Rattle.siting_definitions.specs.Permitted.{permits}
 use Rattle.siting_definitions.specs.Excluded.{is_excluded}
-use Rattle.siting_definitions.specs.Sites.{opening_cost, gap_of}
-use Rattle.siting_definitions.specs.Answer.{Answer, IsHead, IsMark, IsValid, IsWorkedBy}
+use Rattle.siting_definitions.specs.Bounds.{upper_of}
+use Rattle.siting_definitions.specs.Sites.{opening_of, opening_cost}
+use Rattle.siting_definitions.specs.Marks.{IsAtMost}
+use Rattle.siting_definitions.specs.Answer.{Head, Answer, IsWorkedBy}
 use Rattle.siting_definitions.specs.AnswerText.{answer_text}
 use Rattle.instance_text.specs.Reading.{reading}
+use Rattle.discard_log.specs.declared.node.Node.{Node}
 use Rattle.dyadic_square.proofs.Tiling.{holds_closed_from_holds}
 use Rattle.objectives.proofs.BoundLemmas.{fine_of-bounds, lower_of-bounds, upper_of-bounds}
 use Rattle.exclusion.proofs.ExcludedLemmas.{excluded_sound}
 use Rattle.site_model.proofs.Rooted.{root_holds}
 use Rattle.certificate.proofs.ClaimsLemmas.{IsBounded, IsUnderstood, claims}
+use Rattle.pool_core.specs.declared.stop.Stop.{Stop}
+use Rattle.pool_core.specs.declared.stop.Stop.TheVariants.{PoolFull as FullStop, Budget as BudgetStop}
+use Rattle.pool_core.specs.Job.{cost_in}
+use Rattle.pool_core.specs.State.{State}
+use Rattle.site_workers.specs.Ending.{Finishes, IsKeptBy, KeptBy, answer_of, is_full}
 use Rattle.bsss_cli.specs.declared.words.Settings.{Settings}
 use Rattle.bsss_cli.specs.Texts.{instance_limit}
-use Rattle.bsss_cli.specs.Unsplit.{unsplit, root_mark}
+use Rattle.bsss_cli.specs.Jobs.{job_to, opening_offer}
 use Rattle.bsss_cli.specs.Outcome.{is_built, IsAnswerTo, Solves}
-use Rattle.bsss_cli.proofs.UnsplitLemmas.{CanAnswer, unsplit-valid, unsplit-worked}
-use Rattle.bsss_cli.proofs.GapLemmas.{opening-permitted}
 
 bounded : (i : Instance) → IsInstance i → (p : Point) → IsTrue (permits i p) → IsBounded i p
 bounded i lawful p permitted = record {
@@ -36,36 +43,55 @@ understood i lawful = record {
   upper = upper_of-bounds i;
 }
 
-unsplit-answers : (s : Settings) (i : Instance) → is_built s ≡ true → IsInstance i → IsHead (unsplit i (gap_of s.gap (opening_cost i)) s.pool).head → IsMark (root_mark i (gap_of s.gap (opening_cost i))) → IsAnswerTo i s (unsplit i (gap_of s.gap (opening_cost i)) s.pool).head.word (unsplit i (gap_of s.gap (opening_cost i)) s.pool)
-unfolding unsplit
-unsplit-answers s i built lawful head mark =
-    let gap = gap_of s.gap (opening_cost i) in
-    let tests = and_parts (s.budget == 0) (s.workers == 1) built in
-    let can : CanAnswer i gap s.pool = record { head = head; mark = mark; permitted = opening-permitted i } in
-    let valid : IsValid (unsplit i gap s.pool) = unsplit-valid i gap s.pool can in
+-- the start of a job that begins at the opening
+pub opening-most : (i : Instance) → MatchOption (opening_cost i) ⊤ (IsAtMost (cost_in (opening_offer i)))
+opening-most i = most (opening_of i)
+  where
+    most : (z : Option Pt) → MatchOption (option_map (upper_of i) z) ⊤ (IsAtMost (cost_in (option_map (λ (z : Pt). (z, upper_of i z)) z)))
+    most None = tt
+    most (Some z) = omega (arith, ints)
+
+-- what a call that gives an opening says of it
+priced : Instance → Pt → Pt × ℤ
+priced i z = (z, upper_of i z)
+
+some≢none : {X : Type 0} (x : X) → Some x ≡ None → ⊥
+some≢none x e = grind (arith)
+
+priced_is : (i : Instance) (b : Pt × ℤ) (z : Pt) → b.0 ≡ z → b.1 ≡ upper_of i z → b ≡ priced i z
+unfolding priced
+priced_is i (a, u) z e f = rw (e, f) refl
+
+pub opening-offers : (i : Instance) (o : Option (Pt × ℤ)) → option_map (λ (b : Pt × ℤ). b.0) o ≡ opening_of i → option_map (λ (b : Pt × ℤ). b.1) o ≡ opening_cost i → o ≡ opening_offer i
+unfolding priced
+opening-offers i o site cost = offers o (opening_of i) site cost
+  where
+    offers : (o : Option (Pt × ℤ)) (z : Option Pt) → option_map (λ (b : Pt × ℤ). b.0) o ≡ z → option_map (λ (b : Pt × ℤ). b.1) o ≡ option_map (upper_of i) z → o ≡ option_map (priced i) z
+    offers None None site cost = refl
+    offers None (Some z) site cost = absurd (some≢none z (sym site))
+    offers (Some b) None site cost = absurd (some≢none b.0 site)
+    offers (Some b) (Some z) site cost = ap (λ (c : Pt × ℤ). Some c) (priced_is i b z (ap (λ (o : Option Pt). unwrap_or o z) site) (ap (λ (o : Option ℤ). unwrap_or o b.1) cost))
+
+-- the kept parts of one worker
+kept-by_one : (kept : ℕ) (stop : Option Stop) (s : State) → s.kept ≡ kept → s.stop ≡ stop → kept ≡ cond (is_full stop) 1 0 → KeptBy s 1 stop
+kept-by_one kept None s e f h = tt
+kept-by_one kept (Some (FullStop count)) s e f h = omega (arith, e, h)
+kept-by_one kept (Some (BudgetStop leases)) s e f h = omega (arith, e, h)
+
+pub answers : (s : Settings) (i : Instance) (pool : State) (best : Option (Pt × ℤ)) (h : Head) (ns : List Node) → IsInstance i → is_built s ≡ true → Finishes (job_to i s) pool best h ns → pool.kept ≡ cond (is_full pool.stop) 1 0 → ((workers : ℕ) → IsKeptBy pool workers → IsWorkedBy (answer_of h ns) workers) → IsAnswerTo i s h.word (answer_of h ns)
+answers s i pool best h ns lawful built finishes kept worked =
+    let one : s.workers ≡ 1 = eqb-true s.workers 1 built in
+    let lawful' : IsInstance h.instance = subst IsInstance (sym finishes.instance) lawful in
     record {
-      instance = refl;
-      gap = refl;
-      budget = sym (eqb-true s.budget 0 tests.0);
-      pool = refl;
+      instance = finishes.instance;
+      gap = finishes.gap;
+      budget = finishes.budget;
+      pool = finishes.pool;
       word = refl;
-      claims = claims (unsplit i gap s.pool) (understood i lawful) valid;
-      valid = valid;
-      worked = subst (IsWorkedBy (unsplit i gap s.pool)) (sym (eqb-true s.workers 1 tests.1)) (unsplit-worked i gap s.pool);
+      claims = claims (answer_of h ns) (understood h.instance lawful') finishes.valid;
+      valid = finishes.valid;
+      worked = subst (IsWorkedBy (answer_of h ns)) (sym one) (worked 1 (kept-by_one pool.kept pool.stop pool refl refl kept));
     }
 
-pub unsplit-solves : (s : Settings) (bytes : List ℕ) (i : Instance) (a : Answer) → is_built s ≡ true → IsInstance i → length bytes ≤ instance_limit → reading bytes ≡ Ok i → a ≡ unsplit i (gap_of s.gap (opening_cost i)) s.pool → IsHead a.head → All IsMark a.marks → Solves s bytes a.head.word (answer_text a)
-unfolding unsplit
-unsplit-solves s bytes i a built lawful short read e head marks =
-    let u = unsplit i (gap_of s.gap (opening_cost i)) s.pool in
-    let head' : IsHead u.head = subst (λ (b : Answer). IsHead b.head) e head in
-    let marks' : All IsMark u.marks = subst (λ (b : Answer). All IsMark b.marks) e marks in
-    subst (λ (b : Answer). Solves s bytes b.head.word (answer_text b)) (sym e)
-    (record {
-      short = short;
-      instance = i;
-      read = read;
-      answer = u;
-      answers = unsplit-answers s i built lawful head' (marks' 0 (root_mark i (gap_of s.gap (opening_cost i))) (omega arith));
-      written = refl;
-    })
+pub solves : (s : Settings) (bytes : List ℕ) (i : Instance) (a : Answer) → length bytes ≤ instance_limit → reading bytes ≡ Ok i → IsAnswerTo i s a.head.word a → Solves s bytes a.head.word (answer_text a)
+solves s bytes i a short read answered = record { short = short; instance = i; read = read; answer = a; answers = answered; written = refl }

@@ -1,4 +1,4 @@
 pub mod Words
 pub mod Texts
-pub mod Unsplit
+pub mod Jobs
 pub mod Outcome

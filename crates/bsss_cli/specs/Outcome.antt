@@ -19,9 +19,9 @@ use Rattle.bsss_cli.specs.declared.status.Status.{Status}
 use Rattle.bsss_cli.specs.declared.status.Status.TheVariants.{Solved, Made, Usage, NotBuilt, BadInstance, ReadFault, WriteFault, NoMemory, TooLong, PoolFull, Budget, Floor, Empty}
 use Rattle.bsss_cli.specs.Texts.{instance_limit, bad_words, not_built, too_long, bad_instance}
 
--- whether a solve is built: with one worker and nothing to lease
+-- whether a solve is built: with one worker
 abbrev pub is_built : Settings → Bool
-is_built s = (s.budget == 0) && (s.workers == 1)
+is_built s = s.workers == 1
 
 -- the answer is one to the instance, under the settings, and ends with the word
 pub record IsAnswerTo (i : Instance) (s : Settings) (end : Word) (a : Answer) : Type 0 where

@@ -1,16 +1,17 @@
 //! The program: its words, its top call, and what it writes.
 #![tactic(auto)]
 
-mod answer;
+mod gap;
 mod laws;
 mod output;
 mod run;
+mod solve;
 mod status;
 #[cfg(test)]
 mod tests;
 mod words;
 
-pub use answer::gap_of;
+pub use gap::gap_of;
 pub use laws::a_valid_answer_claims;
 pub use run::run_alone;
 pub use siting_definitions::GapRule;

@@ -9,8 +9,8 @@ ghost use Rattle.bsss_cli.specs.Outcome as outcomes;
 ghost use Rattle.bsss_cli.specs.Texts.{not_built};
 ghost use Rattle.bsss_cli.specs.Outcome.{Answers, Writes, HasReadAll, reads};
 
-use crate::answer::answer_unsplit;
 use crate::output::{put_answer, put_bad_instance, put_instance, put_text};
+use crate::solve::solve;
 use crate::status::{Status, report, status_of};
 use crate::words::{Argv, Command, NoMemory, Settings, parse_words};
 use case_maker::make_instance;
@@ -67,11 +67,11 @@ fn run_unbuilt<K: Sink>(sink: &mut K) -> Status
     report(put_text(b"not built\n", sink), Status::NotBuilt)
 }
 
-/// Whether a solve is built: with one worker and nothing to lease.
+/// Whether a solve is built: with one worker.
 fn is_built(settings: Settings) -> bool
     ensures { result ≡ outcomes.is_built settings }
 {
-    settings.budget == 0 && settings.workers == 1
+    settings.workers == 1
 }
 
 /// Runs a solve.
@@ -144,7 +144,7 @@ fn solve_instance<K: Sink>(
     ensures write_fault { result ≡ Status.WriteFault → Rose (K.faults sink.old) (K.faults sink.new) }
     ensures no_read_fault { result ≢ Status.ReadFault }
 {
-    match answer_unsplit(alloc, instance, settings) {
+    match solve(alloc, instance, settings) {
         Ok((head, nodes)) => {
             let status = status_of(head.word);
             report(put_answer(&head, &nodes, sink), status)

@@ -3,6 +3,7 @@
 ghost use Rattle.std.specs.Prelude.{◌≡◌, ℤ, IsTrue, IfSome, fold, option_map};
 ghost use Rattle.siting_definitions.specs.Point.{Pt, grid, point_of};
 ghost use Rattle.siting_definitions.specs.Permitted.{permits};
+ghost use Rattle.siting_definitions.specs.Answer.{IsSite};
 ghost use Rattle.siting_definitions.specs.Sites.{opening_cost, opening_of, vertices};
 ghost use Rattle.candidate_sites.specs.Better.{better, better_vertex};
 
@@ -17,6 +18,7 @@ pub fn opening(instance: &Instance) -> Option<(Site, i64)>
     ensures site { option_map (λ (b : Pt × ℤ). b.0) result ≡ opening_of instance.now }
     ensures cost { option_map (λ (b : Pt × ℤ). b.1) result ≡ opening_cost instance.now }
     ensures permitted { IfSome result (λ b. IsTrue (permits instance.now (point_of b.0))) }
+    ensures limits { IfSome result (λ b. IsSite b.0) }
 {
     let best = best_of_all(instance, instance.permitted(), None);
     best_of_all(instance, instance.forbidden(), best)

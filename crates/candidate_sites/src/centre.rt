@@ -18,6 +18,7 @@ pub fn centre_site(instance: &Instance, sq: Square) -> Option<(Site, i64)>
     ensures site { option_map (λ (b : points.Pt × ℤ). b.0) result ≡ centre_site_of instance.now sq }
     ensures cost { option_map (λ (b : points.Pt × ℤ). b.1) result ≡ centre_cost instance.now sq }
     ensures permitted { IfSome result (λ b. IsTrue (permits instance.now (point_of b.0))) }
+    ensures limits { IfSome result (λ b. IsSite b.0) }
 {
     if sq.level == 0 {
         return None;

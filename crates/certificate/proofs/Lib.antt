@@ -1,3 +1,4 @@
 pub mod ClaimsLemmas
 mod TextLemmas
 mod Written
+pub mod TallyLemmas

@@ -3,11 +3,13 @@
 
 mod head;
 mod laws;
+mod tally;
 mod write;
 
 pub use head::Head;
 pub use laws::no_text_is_of_two_answers;
 pub use siting_definitions::Word;
+pub use tally::{Tally, tallies_join};
 pub use write::write_answer;
 
 #[cfg(test)]

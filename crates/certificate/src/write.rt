@@ -1,12 +1,10 @@
 //! Writing the text of an answer.
 
-ghost use Rattle.std.specs.Prelude.{◌≡◌, [], ◌∷◌, ◌++◌, map, flat_map, codes, is_some};
+ghost use Rattle.std.specs.Prelude.{◌≡◌, [], ◌∷◌, ◌++◌, map, flat_map, codes};
 ghost use Rattle.std.specs.Fmt.{signed_decimal};
 ghost use Rattle.port_io.specs.Output.{IsOpen, Put, sink_of, stage};
 ghost use Rattle.siting_definitions.specs.Line.{line_text, text_of};
 ghost use Rattle.siting_definitions.specs.AnswerText.{number_line, optional_line, site_line, cost_line, word_field, root_line, mark_line, head_lines, answer_text};
-ghost use Rattle.std.specs.List.{list_any};
-ghost use Rattle.siting_definitions.specs.Instance.{DemandPt as Point};
 ghost use Rattle.siting_definitions.specs.InstanceText.{version_field};
 ghost use Rattle.certificate.specs.Inside.{best_of};
 ghost use Rattle.certificate.specs.Written.{node_text, mark_of};
@@ -16,7 +14,7 @@ use discard_log::{Mark, Node, NodeList};
 use dyadic_square::Square;
 use instance_text::write_instance;
 use port_io::{Out, Piece, Sink, WriteFault};
-use site_model::{DemandPt, Instance, Site};
+use site_model::{Instance, Site};
 use siting_definitions::Word;
 
 /// Puts the canonical text of an answer: of this head, and of the nodes of its tree in preorder.
@@ -55,18 +53,7 @@ fn write_first_line<K: Sink>(instance: &Instance, out: &mut Out<K>) -> Result<()
 fn version_bytes(instance: &Instance) -> &'static [u8]
     ensures { result.now ≡ version_field instance.now }
 {
-    if has_cutoff(instance.points()) {
-        b"2"
-    } else {
-        b"1"
-    }
-}
-
-/// Whether some point has a cutoff.
-fn has_cutoff(points: &[DemandPt]) -> bool
-    ensures { result ≡ list_any (λ (d : Point). is_some d.cutoff) points.now }
-{
-    points.iter().any(|point| point.cutoff.is_some())
+    if instance.has_cutoff() { b"2" } else { b"1" }
 }
 
 /// Writes the lines of the head that come after the instance's.

@@ -2,3 +2,4 @@ pub mod Edges
 pub mod Boxes
 pub mod BoxLemmas
 pub mod AreaLemmas
+mod TurnLemmas

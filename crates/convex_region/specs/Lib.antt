@@ -1,3 +1,4 @@
 pub mod Inside
 pub mod Dent
 pub mod Box
+pub mod Turns

@@ -10,6 +10,7 @@ ghost use Rattle.siting_definitions.specs.Excluded as excluded;
 ghost use Rattle.convex_region.specs.Dent.{IsDent, IsFirstDent, Builds};
 
 use crate::polygon::{Polygon, next_of, side_at};
+use crate::turns::is_convex;
 use exact_geometry::{Extent, Place};
 use std::alloc::{AllocError, Global};
 
@@ -46,7 +47,7 @@ impl Polygon {
         let Ok(corners) = turned(alloc, corners) else {
             return Err(PolygonFault::NoMemory);
         };
-        if let Some((edge, vertex)) = first_dent(corners.as_slice()) {
+        if let Some((edge, vertex)) = dent_of(corners.as_slice()) {
             return Err(PolygonFault::NotConvex {
                 edge: edge as u8,
                 vertex: vertex as u8,
@@ -129,6 +130,18 @@ fn dent_at(corners: &[Place], i: usize) -> Option<usize>
         }
     }
     None
+}
+
+/// The first dent, as edge and vertex. It is looked for only where one pass doesn't show that there is none.
+fn dent_of(corners: &[Place]) -> Option<(usize, usize)>
+    ensures none { IfNone result ((i j : ℕ) → ¬ (IsDent corners.now i j)) }
+    ensures some { IfSome result (λ d. IsFirstDent corners.now d.0 d.1) }
+{
+    if is_convex(corners) {
+        None
+    } else {
+        first_dent(corners)
+    }
 }
 
 /// The first dent, as edge and vertex.

@@ -4,6 +4,7 @@
 mod build;
 mod laws;
 mod polygon;
+mod turns;
 
 pub use build::PolygonFault;
 pub use laws::{a_polygon_is_turned, a_polygon_lies_in_its_box};
@@ -30,6 +31,22 @@ mod tests {
             Place::of(2, 8),
         ];
         let dent = Polygon::build(rt.alloc(), &pentagram).err();
+        assert_eq!(rt; dent, Some(PolygonFault::NotConvex { edge: 0, vertex: 3 }));
+    }
+
+    /// It turns left at each corner, and each edge has corner 0 to its left, but it goes round corner 0.
+    #[test]
+    fn a_spiral_turns_twice(rt: HostRuntime) {
+        let spiral = [
+            Place::of(0, 0),
+            Place::of(10, 0),
+            Place::of(0, 10),
+            Place::of(-10, 0),
+            Place::of(0, -10),
+            Place::of(15, -5),
+            Place::of(15, 5),
+        ];
+        let dent = Polygon::build(rt.alloc(), &spiral).err();
         assert_eq!(rt; dent, Some(PolygonFault::NotConvex { edge: 0, vertex: 3 }));
     }
 
@@ -77,6 +94,28 @@ mod tests {
                 y0: 0,
                 x1: 262144,
                 y1: 262144
+            }
+        );
+    }
+
+    #[test]
+    fn a_copy_is_the_same_polygon(rt: HostRuntime) {
+        let corners = [Place::of(0, 0), Place::of(4, 0), Place::of(0, 2)];
+        let triangle = polygon(&rt, rt.alloc(), &corners);
+        let copy = triangle.clone().expect(&rt, "memory");
+        drop(triangle);
+        assert_eq!(rt; copy.len(), 3);
+        for (i, corner) in corners.iter().enumerate() {
+            assert!(rt; i < copy.len());
+            assert_eq!(rt; copy.vertex(i), *corner);
+        }
+        assert_eq!(rt;
+            copy.bounds(),
+            Extent {
+                x0: 0,
+                y0: 0,
+                x1: 262144,
+                y1: 131072
             }
         );
     }

@@ -9,6 +9,7 @@ ghost use Rattle.siting_definitions.specs.Instance.{IsPolygon};
 ghost use Rattle.siting_definitions.specs.Excluded.{bounds_of};
 
 use exact_geometry::{Extent, Place, Pt, side};
+use std::alloc::AllocError;
 use std::marker::Model;
 
 /// A convex polygon: 3 to 64 places, counter-clockwise, each strictly to the left of each edge that it isn't an end of.
@@ -28,6 +29,19 @@ impl Model for Polygon {
     ghost view = { λ a. a.corners.items };
 
     ghost invariant = { λ a. Fits a.corners.items a.bounds };
+}
+
+/// A copy is the same polygon. It takes memory, so it may fail.
+impl Clone for Polygon {
+    ghost is_clone = { λ polygon copy. copy ≡ polygon };
+
+    fn clone(&self) -> Result<Polygon, AllocError> {
+        let corners = self.corners.clone()?;
+        Ok(Polygon {
+            corners,
+            bounds: self.bounds,
+        })
+    }
 }
 
 impl Polygon {

@@ -79,6 +79,12 @@ places_of [] = []
 places_of (x ∷ []) = []
 places_of (x ∷ y ∷ fields) = place_from x y ∷ places_of fields
 
+-- whether the fields are coordinates, in pairs
+abbrev pub are_places : List (List ℕ) → Bool
+are_places [] = true
+are_places (x ∷ []) = false
+are_places (x ∷ y ∷ fields) = (is_in_range (coordinate_of x) && is_in_range (coordinate_of y)) && are_places fields
+
 -- the polygon with these vertices in order, counter-clockwise
 abbrev pub polygon_of : List Place → Result (List Place) ℕ
 polygon_of vs =

@@ -4,7 +4,7 @@ ghost use Rattle.std.specs.Prelude.{◌≡◌};
 ghost use Rattle.std.specs.List.{list_all};
 ghost use Rattle.text_lines.specs.Lines.{fields_of};
 ghost use Rattle.text_lines.specs.Numbers.{HasSize};
-ghost use Rattle.instance_text.specs.Rows.{coordinate_of, weight_of, cutoff_of, is_number as tells_number, are_numbers as tells_numbers, are_coordinates as tells_coordinates, IsCutoff};
+ghost use Rattle.instance_text.specs.Rows.{coordinate_of, weight_of, cutoff_of, is_number as tells_number, are_numbers as tells_numbers, IsCutoff};
 
 use text_lines::{Within, next_field, number_within};
 
@@ -49,20 +49,6 @@ pub fn are_numbers(fields: &[u8]) -> bool
     let mut rest = fields;
     while let Some((field, after)) = next_field(rest) {
         if !is_number(coordinate(field)) {
-            return false;
-        }
-        rest = after;
-    }
-    true
-}
-
-/// Whether each field is a coordinate.
-pub fn are_coordinates(fields: &[u8]) -> bool
-    ensures { result ≡ tells_coordinates (fields_of fields.now) }
-{
-    let mut rest = fields;
-    while let Some((field, after)) = next_field(rest) {
-        if !matches!(coordinate(field), Within::Value(_)) {
             return false;
         }
         rest = after;

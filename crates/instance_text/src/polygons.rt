@@ -1,15 +1,14 @@
 //! The polygon of a line.
 
-ghost use Rattle.std.specs.Prelude.{◌≡◌, IfOk};
-ghost use Rattle.siting_definitions.specs.Instance.{IsCoordinate};
+ghost use Rattle.std.specs.Prelude.{◌≡◌, true, false, ◌&&◌, Err, IfOk, IfNone, IfSome, MatchOption};
 ghost use Rattle.text_lines.specs.Lines.{fields_of};
-ghost use Rattle.instance_text.specs.Rows.{coordinate_of, number_in, place_from, places_of, polygon_of as polygon_from, polygon_row};
+ghost use Rattle.instance_text.specs.Rows.{coordinate_of, is_in_range, place_from, are_places, places_of, polygon_of as polygon_from, polygon_row};
 ghost use Rattle.instance_text.specs.Outcome.{Says};
 
 use crate::faults::{
     BAD_LINE, BAD_NUMBER, LineError, NOT_CONVEX, OUT_OF_RANGE, TOO_FEW_VERTICES, TOO_MANY_VERTICES,
 };
-use crate::numbers::{are_coordinates, are_numbers, coordinate};
+use crate::numbers::{are_numbers, coordinate};
 use convex_region::{Polygon, PolygonFault};
 use exact_geometry::Place;
 use std::alloc::{AllocError, Global};
@@ -19,17 +18,25 @@ use text_lines::{Within, count_fields, next_field};
 pub fn read_polygon(alloc: Global, fields: &[u8]) -> Result<Polygon, LineError>
     ensures { Says result (polygon_row (fields_of fields.now)) }
 {
+    match places(alloc, fields)? {
+        Some(corners) => polygon_of(alloc, corners.as_slice()),
+        None => Err(LineError::Fault(fault_of(fields))),
+    }
+}
+
+/// The fault of fields that aren't coordinates in pairs.
+fn fault_of(fields: &[u8]) -> u8
+    requires { are_places (fields_of fields.now) ≡ false }
+    ensures { polygon_row (fields_of fields.now) ≡ Err result }
+{
     if count_fields(fields) % 2 != 0 {
-        return Err(LineError::Fault(BAD_LINE));
+        return BAD_LINE;
     }
-    if !are_numbers(fields) {
-        return Err(LineError::Fault(BAD_NUMBER));
+    if are_numbers(fields) {
+        OUT_OF_RANGE
+    } else {
+        BAD_NUMBER
     }
-    if !are_coordinates(fields) {
-        return Err(LineError::Fault(OUT_OF_RANGE));
-    }
-    let corners = places(alloc, fields)?;
-    polygon_of(alloc, corners.as_slice())
 }
 
 /// The polygon with these vertices in order.
@@ -45,36 +52,32 @@ fn polygon_of(alloc: Global, corners: &[Place]) -> Result<Polygon, LineError>
     }
 }
 
-/// The coordinate of a field that is one, in lengths.
-fn coordinate_in(field: &[u8]) -> i32
-    ensures value { result ≡ number_in (coordinate_of field.now) }
-    ensures size { IsCoordinate result }
+/// The place with these coordinates, or none where one of them isn't a coordinate.
+fn place(x: &[u8], y: &[u8]) -> Option<Place>
+    ensures none { IfNone result ((is_in_range (coordinate_of x.now) && is_in_range (coordinate_of y.now)) ≡ false) }
+    ensures some { IfSome result (λ p. (p ≡ place_from x.now y.now) × ((is_in_range (coordinate_of x.now) && is_in_range (coordinate_of y.now)) ≡ true)) }
 {
-    match coordinate(field) {
-        Within::Value(value) => value as i32,
-        _ => 0,
+    match (coordinate(x), coordinate(y)) {
+        (Within::Value(x), Within::Value(y)) => Some(Place::of(x as i32, y as i32)),
+        _ => None,
     }
 }
 
-/// The place with these coordinates.
-fn place(x: &[u8], y: &[u8]) -> Place
-    ensures { result ≡ place_from x.now y.now }
-{
-    Place::of(coordinate_in(x), coordinate_in(y))
-}
-
-/// The places whose coordinates are the fields, in pairs.
-fn places(alloc: Global, fields: &[u8]) -> Result<Vec<Place>, AllocError>
-    ensures { IfOk result (λ v. v.items ≡ places_of (fields_of fields.now)) }
+/// The places whose coordinates are the fields, in pairs, or none where the fields aren't that.
+fn places(alloc: Global, fields: &[u8]) -> Result<Option<Vec<Place>>, AllocError>
+    ensures { IfOk result (λ found. MatchOption found (are_places (fields_of fields.now) ≡ false) (λ v. (are_places (fields_of fields.now) ≡ true) × (v.items ≡ places_of (fields_of fields.now)))) }
 {
     let mut places = Vec::new(alloc);
     let mut rest = fields;
     while let Some((x, after)) = next_field(rest) {
         let Some((y, after)) = next_field(after) else {
-            break;
+            return Ok(None);
         };
-        places.push(place(x, y))?;
+        let Some(place) = place(x, y) else {
+            return Ok(None);
+        };
+        places.push(place)?;
         rest = after;
     }
-    Ok(places)
+    Ok(Some(places))
 }

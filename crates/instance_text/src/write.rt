@@ -1,8 +1,7 @@
 //! Writing an instance text.
 
-ghost use Rattle.std.specs.Prelude.{◌≡◌, is_some};
-ghost use Rattle.std.specs.List.{list_any, flat_map};
-ghost use Rattle.siting_definitions.specs.Instance.{DemandPt as Point};
+ghost use Rattle.std.specs.Prelude.{◌≡◌};
+ghost use Rattle.std.specs.List.{flat_map};
 ghost use Rattle.siting_definitions.specs.InstanceText.{kind_field, instance_text};
 ghost use Rattle.port_io.specs.Output.{Put, IsOpen, sink_of, stage};
 ghost use Rattle.instance_text.specs.Written.{front_text, point_text, vertex_text, polygon_text};
@@ -31,11 +30,7 @@ fn write_front<K: Sink>(instance: &Instance, out: &mut Out<K>) -> Result<(), Wri
     ensures same { sink_of out.new ≡ sink_of out.old }
     ensures put { Put (stage K.room K.taken K.faults out.old) (stage K.room K.taken K.faults out.new) (front_text instance.now) result }
 {
-    let version: &[u8] = if has_cutoff(instance.points()) {
-        b"2"
-    } else {
-        b"1"
-    };
+    let version: &[u8] = if instance.has_cutoff() { b"2" } else { b"1" };
     out.put_pieces(&[
         Piece::Text(b"siting "),
         Piece::Text(version),
@@ -43,12 +38,6 @@ fn write_front<K: Sink>(instance: &Instance, out: &mut Out<K>) -> Result<(), Wri
         Piece::Text(kind_word(instance.kind())),
         Piece::Text(b"\n"),
     ])
-}
-
-fn has_cutoff(points: &[DemandPt]) -> bool
-    ensures { result ≡ list_any (λ (d : Point). is_some d.cutoff) points.now }
-{
-    points.iter().any(|point| point.cutoff.is_some())
 }
 
 fn kind_word(kind: Kind) -> &'static [u8]

@@ -6,6 +6,7 @@
 
 mod bounds;
 mod costs;
+mod gap;
 mod laws;
 mod radii;
 mod rounding;
@@ -15,6 +16,7 @@ mod total;
 
 pub use bounds::{coarse, fine};
 pub use costs::cost_of;
+pub use gap::reaches;
 pub use laws::{
     coarse_is_below_fine, costs_are_ordered, costs_enclose, fine_is_a_bound,
     quarters_are_bounded_higher,

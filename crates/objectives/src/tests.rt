@@ -84,3 +84,19 @@ fn totals_step_by_step(rt: HostRuntime) {
     assert_eq!(rt; MaxTotal::join(Some(-7), -3, 2), -6);
     assert_eq!(rt; MaxTotal::join(Some(5), -3, 2), 5);
 }
+
+#[test]
+fn bounds_that_reach_a_cost(rt: HostRuntime) {
+    let table = [
+        (None, i64::MAX, i64::MAX, false),
+        (Some(7), 5, 2, true),
+        (Some(8), 5, 2, false),
+        (Some(-8), -10, 2, true),
+        // The sum is outside the range of 64 bits.
+        (Some(i64::MAX), i64::MAX, 1, true),
+        (Some(i64::MIN), i64::MIN, -1, false),
+    ];
+    for (least, bound, gap, want) in table {
+        assert_eq!(rt; reaches(least, bound, gap), want);
+    }
+}

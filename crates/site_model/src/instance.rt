@@ -1,6 +1,6 @@
 //! Instances.
 
-ghost use Rattle.std.specs.Prelude.{◌≡◌, ◌≤◌, pos, length, All};
+ghost use Rattle.std.specs.Prelude.{◌≡◌, ◌≤◌, pos, length, All, is_some};
 ghost use Rattle.std.specs.List.{list_any};
 ghost use Rattle.siting_definitions.specs.Point.{point_of};
 ghost use Rattle.siting_definitions.specs.Polygon.{covers, covers_inside};
@@ -15,6 +15,7 @@ use convex_region::Polygon;
 use dyadic_square::Square;
 use exact_geometry::Pt;
 use siting_definitions::Kind;
+use std::alloc::AllocError;
 use std::marker::Model;
 
 /// An instance: 1 to 4,096 demand points with weights of at most 16,000,000 together in size, 1 to 64 permitted polygons
@@ -38,6 +39,25 @@ impl Model for Instance {
     ghost view = { λ a. record { kind = a.kind; points = a.points.items; permitted = a.permitted.items; forbidden = a.forbidden.items } };
 
     ghost invariant = { λ a. Fits (record { kind = a.kind; points = a.points.items; permitted = a.permitted.items; forbidden = a.forbidden.items }) a.weight a.root };
+}
+
+/// A copy is the same instance. It takes memory, so it may fail.
+impl Clone for Instance {
+    ghost is_clone = { λ instance copy. copy ≡ instance };
+
+    fn clone(&self) -> Result<Instance, AllocError> {
+        let points = self.points.clone()?;
+        let permitted = self.permitted.clone()?;
+        let forbidden = self.forbidden.clone()?;
+        Ok(Instance {
+            kind: self.kind,
+            points,
+            permitted,
+            forbidden,
+            weight: self.weight,
+            root: self.root,
+        })
+    }
 }
 
 impl Instance {
@@ -97,6 +117,13 @@ impl Instance {
         ensures { result.now ≡ self.now.forbidden }
     {
         self.forbidden.as_slice()
+    }
+
+    /// Whether some demand point has a cutoff.
+    pub fn has_cutoff(&self) -> bool
+        ensures { result ≡ list_any (λ (d : instances.DemandPt). is_some d.cutoff) self.now.points }
+    {
+        self.points.iter().any(|point| point.cutoff.is_some())
     }
 
     /// The sum of the sizes of the weights, 1 to 16,000,000.

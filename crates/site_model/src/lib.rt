@@ -108,6 +108,25 @@ mod tests {
         assert_eq!(rt; point.cutoff, Some(4000000));
     }
 
+    #[test]
+    fn a_copy_is_the_same_instance(rt: HostRuntime) {
+        let allowed = [Place::of(3, 4), Place::of(9, 4), Place::of(3, 10)];
+        let barred = [Place::of(4, 5), Place::of(6, 5), Place::of(5, 6)];
+        let first = instance(&rt, rt.alloc(), &allowed, &barred);
+        let copy = first.clone().expect(&rt, "memory");
+        drop(first);
+        assert_eq!(rt; copy.kind(), Kind::Max);
+        assert_eq!(rt; copy.weight(), 3);
+        assert_eq!(rt; copy.points().len(), 1);
+        assert_eq!(rt; copy.points()[0], DemandPt::of(0, 0, -3, None));
+        assert_eq!(rt; copy.permitted().len(), 1);
+        assert_eq!(rt; copy.permitted()[0].vertex(1), Place::of(9, 4));
+        assert_eq!(rt; copy.forbidden().len(), 1);
+        assert_eq!(rt; copy.forbidden()[0].vertex(2), Place::of(5, 6));
+        assert_eq!(rt; copy.root(), Square::of(196608, 262144, 19));
+        assert!(rt; !copy.has_cutoff());
+    }
+
     fn is_shared<T: Send + Sync>(_value: &T) {}
 
     #[test]

@@ -1,6 +1,8 @@
 ghost use Rattle.std.specs.Prelude.{◌≡◌, ◌<◌, ◌∷◌, length};
 ghost use Rattle.text_lines.specs.Lines.{pieces_of, without_return as stripped, lines_of};
 
+use memchr::memchr;
+
 /// The first line of a text that isn't empty, and the bytes after it.
 ///
 /// A line ends at a line feed (byte 10) or at the end of the text. It is answered without the line feed and without one
@@ -19,12 +21,10 @@ fn next_piece(bytes: &[u8]) -> (&[u8], &[u8])
     ensures first { pieces_of bytes.now ≡ result.0.now ∷ pieces_of result.1.now }
     ensures shorter { length result.1.now < length bytes.now }
 {
-    for (i, byte) in bytes.iter().enumerate() {
-        if *byte == b'\n' {
-            return (&bytes[..i], &bytes[i + 1..]);
-        }
+    match memchr(b'\n', bytes) {
+        Some(i) => (&bytes[..i], &bytes[i + 1..]),
+        None => (bytes, &[]),
     }
-    (bytes, &[])
 }
 
 fn without_return(piece: &[u8]) -> &[u8]

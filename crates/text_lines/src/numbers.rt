@@ -1,4 +1,4 @@
-ghost use Rattle.std.specs.Prelude.{◌≡◌, ◌<◌, ◌^◌};
+ghost use Rattle.std.specs.Prelude.{◌≡◌, ◌+◌, ◌*◌, ◌<◌, ◌≤◌, ◌^◌};
 ghost use Rattle.std.specs.Option.{option_map};
 
 /// What a field is, where a number of at most some size is asked for.
@@ -28,11 +28,21 @@ pub fn digits(field: &[u8]) -> Option<u64>
         if !byte.is_ascii_digit() {
             return None;
         }
-        value = value
-            .saturating_mul(10)
-            .saturating_add(u64::from(*byte - b'0'));
+        value = with_digit(value, u64::from(*byte - b'0'));
     }
     Some(value)
+}
+
+/// A number with one digit more behind its digits, or 2^64 - 1 where that is above it.
+fn with_digit(value: u64, digit: u64) -> u64
+    requires { digit ≤ 9 }
+    ensures { result ≡ capped (10 * value + digit) }
+{
+    if value < 1_000_000_000_000_000_000 {
+        10 * value + digit
+    } else {
+        value.saturating_mul(10).saturating_add(digit)
+    }
 }
 
 /// The number that a field of digits stands for, with `-` or `+` before them or neither, or none where the field isn't one.

@@ -30,7 +30,7 @@ polygon_is c =
       few = omega arith;
       many = omega arith;
       places = subst (All IsPlace) c.as_slice-2.ensures.value c.bounds_of-bounds.ensures.places;
-      convex = IsConvex-by_dents c.in-Ok.corners.items (subst (λ vs. (i j : ℕ) → IsDent vs i j → ⊥) c.as_slice.ensures.value c.in_default-first_dent.ensures.none);
+      convex = IsConvex-by_dents c.in-Ok.corners.items (subst (λ vs. (i j : ℕ) → IsDent vs i j → ⊥) c.as_slice.ensures.value c.in_default-dent_of.ensures.none);
     }
 
 pub invariant_of-result : goal.invariant_of-result

@@ -1,0 +1,12 @@
+pub mod CountsKept
+pub mod VerdictLemmas
+pub mod MarksKept
+pub mod TreeKept
+pub mod SoundSteps
+pub mod BegunLemmas
+pub mod Entries
+pub mod SortOut
+pub mod Leasing
+pub mod Returning
+pub mod Beginnings
+pub mod Resumed

@@ -1,0 +1,30 @@
+-- What the fields of a pool show.
+use Rattle.std.specs.Prelude.{◌≡◌, ℕ, ◌+◌, ◌*◌, ◌-◌, ◌≤◌, List, take, length, vec_len, vec_capacity, Option}
+use Rattle.siting_definitions.specs.Square.{Square}
+use Rattle.pool_core.specs.declared.pool.Pool.TheInside.{Inside}
+use Rattle.pool_core.specs.Job.{IsJob}
+use Rattle.pool_core.specs.State.{State, open_count, split_count}
+use Rattle.pool_core.specs.Sound.{CountsFit}
+
+abbrev pub state_of : Inside → State
+state_of a =
+    record {
+      job = a.job;
+      waiting = a.waiting.entries;
+      leased = a.leased.items;
+      nodes = a.log.nodes;
+      leases = a.leases;
+      kept = a.kept;
+      stop = a.stop;
+      beginning = record { nodes = take a.begun_nodes a.log.nodes; raised = a.begun_raised; leases = a.begun_leases };
+    }
+
+-- The counts fit, and each room suffices for all that may come: a tree has one square and four more for each that is split.
+pub record Fits (a : Inside) : Type 0 where
+  pub job : IsJob a.job
+  pub counts : CountsFit (state_of a)
+  pub size : length a.log.nodes + open_count (state_of a) ≡ 1 + 4 * split_count a.log.nodes
+  pub begun : a.begun_nodes ≤ length a.log.nodes
+  pub waiting_room : length a.waiting.entries + a.waiting.spare ≡ a.job.pool
+  pub leased_room : a.job.pool ≤ vec_capacity a.leased
+  pub log_room : 4 * (split_count a.log.nodes + vec_len a.leased + (a.job.budget - a.leases)) + 1 ≤ length a.log.nodes + a.log.spare

@@ -1,0 +1,9 @@
+pub mod Job
+pub mod JobInside
+pub mod Verdict
+pub mod State
+pub mod Machine
+pub mod Sound
+pub mod Begun
+pub mod Inside
+pub mod Answers

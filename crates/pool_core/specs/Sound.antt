@@ -1,0 +1,89 @@
+-- When a state is sound: its squares are those of one tree, its counts fit, and its bounds and marks are right.
+use Rattle.std.specs.Prelude.{◌≡◌, ℕ, ◌+◌, ◌*◌, ◌<◌, ◌≤◌, ℤ, ◌+ℤ◌, ◌≤ℤ◌, true, false, List, [], ◌++◌, map, length, All, IsPermutation, Option, Some, None, MatchOption, ⊤}
+use Rattle.siting_definitions.specs.declared.Mark.{Mark}
+use Rattle.siting_definitions.specs.declared.Mark.TheVariants.{Split, Shut, Bounded, Floor, Left}
+use Rattle.siting_definitions.specs.Point.{Pt}
+use Rattle.siting_definitions.specs.Instance.{Instance}
+use Rattle.siting_definitions.specs.Square.{Square}
+use Rattle.siting_definitions.specs.Bounds.{fine_of}
+use Rattle.siting_definitions.specs.Excluded.{is_excluded}
+use Rattle.siting_definitions.specs.Tree.{Tree, Fits, preorder}
+use Rattle.siting_definitions.specs.Marks.{IsAtMost, IsCalledFor}
+use Rattle.discard_log.specs.declared.node.Node.{Node}
+use Rattle.bound_heap.specs.declared.entry.Entry.{Entry}
+use Rattle.pool_core.specs.declared.stop.Stop.{Stop}
+use Rattle.pool_core.specs.declared.stop.Stop.TheVariants.{PoolFull, Budget}
+use Rattle.pool_core.specs.Job.{Job, IsLawful, IsOffer, job_root, start_cost, cost_in}
+use Rattle.pool_core.specs.State.{State, World, open_count, squares_of, split_count, unsplit_count, raised_count}
+
+-- Waiting, leased and logged squares are those of one tree of the root, each once, and the split ones are those with quarters
+-- in it.
+abbrev pub AreTree : State → Type 0
+AreTree s = (t : Tree) × Fits t (job_root s.job).level × IsPermutation (squares_of s) (preorder t (job_root s.job))
+
+-- The counts. Each lease did something that can be counted: it made a node, raised an entry, is still out, or was kept. A node
+-- took two leases at most, and what was there at the beginning none.
+pub record CountsFit (s : State) : Type 0 where
+  pub open_most : open_count s ≤ s.job.pool
+  pub leased : split_count s.nodes + length s.leased ≤ s.leases
+  pub budget : s.leases ≤ s.job.budget
+  pub going : s.stop ≡ None → s.kept ≡ 0
+  pub kept : s.kept ≤ length s.waiting
+  pub begun : s.beginning.leases ≤ 2 * length s.beginning.nodes + s.beginning.raised
+  pub work : s.leases + (2 * length s.beginning.nodes + s.beginning.raised)
+      ≤ (2 * length s.nodes + raised_count s.waiting + length s.leased + raised_count s.leased + s.kept) + s.beginning.leases
+
+-- a stop at the budget has the leases, and one for want of room has a count of open squares, all of whose leaves are still there
+abbrev pub StopFits : State → Option Stop → Type 0
+StopFits s None = ⊤
+StopFits s (Some (Budget leases)) = (leases ≡ s.leases) × (s.leases ≡ s.job.budget)
+StopFits s (Some (PoolFull count)) =
+    (1 ≤ count) × (count ≤ s.job.pool) × (s.job.pool < count + 3)
+    × (count + unsplit_count s.beginning.nodes ≤ open_count s + unsplit_count s.nodes)
+
+-- what of soundness doesn't speak of bounds and costs
+pub record IsConsistent (s : State) : Type 0 where
+  pub tree : AreTree s
+  pub counts : CountsFit s
+  pub stop_fits : StopFits s s.stop
+  pub begun : (later : List Node) × (s.nodes ≡ s.beginning.nodes ++ later)
+
+-- an entry's bound is at most the fine bound of its square; a raised one is equal to it, and its square isn't excluded
+pub record EntryFits (i : Instance) (e : Entry) : Type 0 where
+  pub bound : e.bound ≤ℤ fine_of i e.square
+  pub raised : e.raised ≡ true → (e.bound ≡ fine_of i e.square) × (is_excluded i e.square ≡ false)
+
+-- the mark of a logged square is right, with u the least upper cost
+abbrev pub MarkFits : Instance → ℤ → Option ℤ → Square → Mark → Type 0
+MarkFits i gap u s (Split seen) = IsCalledFor i gap u s seen
+MarkFits i gap u s Shut = is_excluded i s ≡ true
+MarkFits i gap u s (Bounded c) = (is_excluded i s ≡ false) × (c ≤ℤ fine_of i s) × IsAtMost u (c +ℤ gap)
+MarkFits i gap u s (Floor b) = (is_excluded i s ≡ false) × (s.level ≡ 0) × (b ≡ fine_of i s)
+MarkFits i gap u s (Left b) = ⊥
+
+abbrev pub NodeFits : Instance → ℤ → Option ℤ → Node → Type 0
+NodeFits i gap u n = MarkFits i gap u n.square n.mark
+
+pub record IsSound (w : World) : Type 0 where
+  pub job : IsLawful w.pool.job
+  pub consistent : IsConsistent w.pool
+  pub waiting : All (EntryFits w.pool.job.instance) w.pool.waiting
+  pub leased : All (EntryFits w.pool.job.instance) w.pool.leased
+  pub nodes : All (NodeFits w.pool.job.instance w.pool.job.gap w.least) w.pool.nodes
+  pub start : MatchOption (start_cost w.pool.job) ⊤ (IsAtMost w.least)
+  pub least_is : MatchOption w.least ⊤ (λ u. (z : Pt) × IsOffer w.pool.job.instance z u)
+
+-- a sound state of the job in which nothing is leased and nothing stopped, with the start as the incumbent
+pub record IsPoolOf (j : Job) (s : State) : Type 0 where
+  pub job : s.job ≡ j
+  pub leased : s.leased ≡ []
+  pub going : s.stop ≡ None
+  pub sound : IsSound (record { pool = s; least = start_cost j })
+
+-- the end of a search over the job, with the best site that was offered and its upper cost, if there is one
+pub record IsFinished (j : Job) (s : State) (best : Option (Pt × ℤ)) : Type 0 where
+  pub job : s.job ≡ j
+  pub leased : s.leased ≡ []
+  pub ended : s.stop ≡ None → s.waiting ≡ []
+  pub sound : IsSound (record { pool = s; least = cost_in best })
+  pub best_is : MatchOption best ⊤ (λ z. IsOffer j.instance z.0 z.1)

@@ -1,0 +1,159 @@
+//! Giving a leased square back.
+
+ghost use Rattle.std.specs.Prelude.{◌≡◌, ◌+◌, ◌<◌, ◌≤◌, nat_lt, ◌||◌, false, is_some, Some, [], ◌∷◌, ◌++◌, length, vec_capacity, slice_index_or, Contains, IsPermutation};
+ghost use Rattle.siting_definitions.specs.Square.{quarter_of};
+ghost use Rattle.pool_core.specs.declared.stop.Stop.TheVariants as stops;
+ghost use Rattle.pool_core.specs.declared.verdict.Finding.TheVariants as findings;
+ghost use Rattle.pool_core.specs.Verdict.{finding_of};
+ghost use Rattle.pool_core.specs.Machine.{Returns, entries_from, first_stop};
+ghost use Rattle.pool_core.specs.Answers.{given_of};
+
+use crate::job::Job;
+use crate::lease::Lease;
+use crate::pool::Pool;
+use crate::stop::Stop;
+use crate::verdict::{Finding, Verdict};
+use bound_heap::{Entry, Heap};
+use discard_log::{Log, Mark, Node};
+use dyadic_square::Square;
+
+/// What became of a square that was given back.
+#[derive(Clone, Copy, Debug, PartialEq, Eq)]
+pub enum Given {
+    /// It became a node: excluded, settled, or of level 0.
+    Logged,
+    /// It waits again, with its fine bound.
+    Raised,
+    /// It was cut, and its quarters wait.
+    Parted,
+    /// It waits again as it was, since there was a stop or no room for three more open squares, which is a stop from now on.
+    Kept,
+}
+
+impl Pool {
+    /// Takes a leased square back with the verdict on it.
+    pub fn give_back(&mut self, lease: Lease, verdict: Verdict) -> Given
+        requires leased { Contains self.old.leased lease }
+        requires verdict { verdict.finding ≡ finding_of self.old.job lease verdict.seen }
+        ensures step { Returns lease verdict.seen verdict.finding self.old self.new }
+        ensures given { result ≡ given_of self.old verdict.finding }
+    {
+        let Lease { entry } = lease;
+        let square = entry.square;
+        let count = self.open_count();
+        take_out(&mut self.leased, &entry);
+        match verdict.finding {
+            Finding::Excluded => {
+                add_node(&mut self.log, square, Mark::Shut);
+                Given::Logged
+            }
+            Finding::Bounded(bound) => {
+                add_node(&mut self.log, square, Mark::Bounded(bound));
+                Given::Logged
+            }
+            Finding::Floor(bound) => {
+                add_node(&mut self.log, square, Mark::Floor(bound));
+                Given::Logged
+            }
+            Finding::Raise(bound) => {
+                self.waiting.push(Entry {
+                    square,
+                    bound,
+                    raised: true,
+                });
+                Given::Raised
+            }
+            Finding::Part(bound) => {
+                if is_closed(self.stop, &self.job, count) {
+                    self.waiting.push(entry);
+                    self.kept += 1;
+                    self.stop = Some(earlier(self.stop, count));
+                    Given::Kept
+                } else {
+                    wait_quarters(&mut self.waiting, square, bound);
+                    add_node(&mut self.log, square, Mark::Split(verdict.seen));
+                    Given::Parted
+                }
+            }
+        }
+    }
+}
+
+/// Whether nothing more is cut: there is a stop, or so many squares are open that there is no room for three more.
+fn is_closed(stop: Option<Stop>, job: &Job, count: u32) -> bool
+    requires { count ≤ job.now.pool }
+    ensures { result ≡ (is_some stop || nat_lt job.now.pool (count + 3)) }
+{
+    stop.is_some() || job.pool < count + 3
+}
+
+/// The stop, or where there is none, that for want of room where so many squares are open.
+fn earlier(stop: Option<Stop>, count: u32) -> Stop
+    ensures { Some result ≡ first_stop stop (stops.PoolFull count) }
+{
+    match stop {
+        Some(first) => first,
+        None => Stop::PoolFull { count },
+    }
+}
+
+/// Adds a square with its mark to the log.
+fn add_node(log: &mut Log, square: Square, mark: Mark)
+    requires { 0 < log.old.spare }
+    ensures nodes { log.new.nodes ≡ log.old.nodes ++ record { square = square; mark = mark } ∷ [] }
+    ensures spare { log.new.spare + 1 ≡ log.old.spare }
+{
+    log.push(Node { square, mark });
+}
+
+/// Adds the four quarters of a square, with this bound in cost units, to those that wait.
+fn wait_quarters(waiting: &mut Heap, square: Square, bound: i64)
+    requires level { 0 < square.level }
+    requires room { 4 ≤ waiting.old.spare }
+    ensures entries { IsPermutation (entries_from square (findings.Part bound) ++ waiting.old.entries) waiting.new.entries }
+    ensures spare { waiting.new.spare + 4 ≡ waiting.old.spare }
+{
+    wait_quarter(waiting, square, 0, bound);
+    wait_quarter(waiting, square, 1, bound);
+    wait_quarter(waiting, square, 2, bound);
+    wait_quarter(waiting, square, 3, bound);
+}
+
+/// Adds quarter `i` of a square, with this bound in cost units, to those that wait.
+fn wait_quarter(waiting: &mut Heap, square: Square, i: u8, bound: i64)
+    requires level { 0 < square.level }
+    requires number { i < 4 }
+    requires room { 0 < waiting.old.spare }
+    ensures entries { IsPermutation (record { square = quarter_of square i; bound = bound; raised = false } ∷ waiting.old.entries) waiting.new.entries }
+    ensures spare { waiting.new.spare + 1 ≡ waiting.old.spare }
+{
+    waiting.push(Entry {
+        square: square.quarter(i),
+        bound,
+        raised: false,
+    });
+}
+
+/// Takes an entry out of the leased ones.
+fn take_out(leased: &mut Vec<Entry>, entry: &Entry)
+    requires { Contains leased.old.items entry.now }
+    ensures items { IsPermutation leased.old.items (entry.now ∷ leased.new.items) }
+    ensures capacity { vec_capacity leased.new ≡ vec_capacity leased.old }
+{
+    let place = place_of(leased.as_slice(), entry);
+    leased.swap_remove(place);
+}
+
+/// The place of an entry in a list that holds it.
+fn place_of(entries: &[Entry], entry: &Entry) -> usize
+    requires { Contains entries.now entry.now }
+    ensures within { result < length entries.now }
+    ensures value { entry.now ≡ slice_index_or entries.now result entry.now }
+{
+    for (i, other) in entries.iter().enumerate() {
+        if *other == *entry {
+            return i;
+        }
+    }
+    unreachable!()
+}

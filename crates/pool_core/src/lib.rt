@@ -1,0 +1,21 @@
+//! The core of the search: a job, the pool of its squares, and the verdict on a leased square.
+#![tactic(auto)]
+
+mod give_back;
+mod job;
+mod laws;
+mod lease;
+mod pool;
+mod stop;
+#[cfg(test)]
+mod tests;
+mod verdict;
+
+pub use bound_heap::Entry;
+pub use give_back::Given;
+pub use job::Job;
+pub use laws::{a_begun_pool_is_sound, every_run_is_sound};
+pub use lease::{Lease, LeaseAnswer};
+pub use pool::{NoMemory, Pool};
+pub use stop::Stop;
+pub use verdict::{Finding, Verdict, judge};

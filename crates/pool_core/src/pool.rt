@@ -1,0 +1,236 @@
+//! The pool.
+
+ghost use Rattle.std.specs.Prelude.{◌≡◌, ◌+◌, ◌≤◌, ◌++◌, [], map, filter, true, length, vec_capacity, All, IfOk, IsPermutation};
+ghost use Rattle.siting_definitions.specs.Tree.{Tree, Fits, preorder};
+ghost use Rattle.discard_log.specs.Nodes.{tree_square};
+ghost use Rattle.pool_core.specs.Job.{job_root};
+ghost use Rattle.pool_core.specs.State as states;
+ghost use Rattle.pool_core.specs.State.{first_state, squares_of};
+ghost use Rattle.pool_core.specs.Begun.{IsBegunFrom, IsResumable, closed_nodes, is_left_open, left_count, left_of};
+ghost use Rattle.bound_heap.specs.declared.entry.Entry as entries;
+
+use crate::job::Job;
+use crate::stop::Stop;
+use bound_heap::{Entry, Heap};
+use discard_log::{Log, Mark, Node, NodeList};
+use dyadic_square::Square;
+use objectives::coarse;
+use std::alloc::Global;
+use std::marker::Model;
+
+/// No memory was found.
+#[derive(Clone, Copy, Debug, PartialEq, Eq)]
+pub struct NoMemory;
+
+impl From<bound_heap::NoMemory> for NoMemory {
+    fn from(_: bound_heap::NoMemory) -> NoMemory {
+        NoMemory
+    }
+}
+
+impl From<discard_log::NoMemory> for NoMemory {
+    fn from(_: discard_log::NoMemory) -> NoMemory {
+        NoMemory
+    }
+}
+
+/// The squares of a search: those that wait, those that are leased, and what became of the others. All its memory is taken at
+/// the beginning.
+#[derive(Drop)]
+pub struct Pool {
+    pub(crate) job: Job,
+    pub(crate) waiting: Heap,
+    pub(crate) leased: Vec<Entry>,
+    pub(crate) log: Log,
+    pub(crate) leases: u32,
+    pub(crate) kept: u32,
+    pub(crate) stop: Option<Stop>,
+    /// How many nodes the pool was made with. They come first in the log.
+    pub(crate) begun_nodes: usize,
+    /// How many raised squares waited when the pool was made.
+    pub(crate) begun_raised: u32,
+    /// How many leases had been given when the pool was made.
+    pub(crate) begun_leases: u32,
+}
+
+impl Model for Pool {
+    ghost use Rattle.pool_core.specs.State.{State};
+
+    ghost Value = { State };
+
+    ghost use Rattle.pool_core.specs.Inside.{state_of, Fits};
+
+    ghost view = { state_of };
+
+    ghost invariant = { Fits };
+}
+
+impl Pool {
+    /// The pool in which the root of the job waits with its coarse bound. It takes room for as many entries as may be open, and for
+    /// the nodes of as many cuts as leases may be given.
+    pub fn begin(alloc: Global, job: &Job) -> Result<Pool, NoMemory>
+        ensures { IfOk result (λ pool. pool ≡ first_state job.now) }
+    {
+        let root = job.root;
+        let bound = coarse(&job.instance, root);
+        let mut waiting = Heap::with_room(alloc, job.pool as usize)?;
+        let leased = room_for(alloc, job.pool)?;
+        let log = Log::with_room(alloc, 4 * job.budget as usize + 1)?;
+        let job = copy_of(job)?;
+        waiting.push(Entry {
+            square: root,
+            bound,
+            raised: false,
+        });
+        Ok(Pool {
+            job,
+            waiting,
+            leased,
+            log,
+            leases: 0,
+            kept: 0,
+            stop: None,
+            begun_nodes: 0,
+            begun_raised: 0,
+            begun_leases: 0,
+        })
+    }
+
+    /// The pool in which the squares of a finished tree that were left open wait, after this many leases. The nodes are in preorder.
+    pub fn begin_from(
+        alloc: Global,
+        job: &Job,
+        nodes: &NodeList,
+        leases: u32,
+    ) -> Result<Pool, NoMemory>
+        requires { IsResumable job.now nodes.now leases }
+        ensures { IfOk result (IsBegunFrom job.now nodes.now leases) }
+    {
+        let nodes = nodes.nodes();
+        let count = nodes.len();
+        let mut waiting = Heap::with_room(alloc, job.pool as usize)?;
+        let leased = room_for(alloc, job.pool)?;
+        let mut log = Log::with_room(alloc, count + 4 * (job.budget - leases) as usize)?;
+        let job = copy_of(job)?;
+        sort_out(nodes, &mut waiting, &mut log);
+        let open = waiting.len();
+        Ok(Pool {
+            job,
+            waiting,
+            leased,
+            log,
+            leases,
+            kept: 0,
+            stop: None,
+            begun_nodes: count - open,
+            begun_raised: open as u32,
+            begun_leases: leases,
+        })
+    }
+
+    /// Why nothing more is leased, if there is a stop.
+    pub fn stop(&self) -> Option<Stop>
+        ensures { result ≡ self.now.stop }
+    {
+        self.stop
+    }
+
+    /// How many leases were given, at most the budget of the job.
+    pub fn leases(&self) -> u32
+        ensures { result ≡ self.now.leases }
+    {
+        self.leases
+    }
+
+    /// How many squares wait or are leased, at most the pool of the job.
+    pub fn open_count(&self) -> u32
+        ensures { result ≡ states.open_count self.now }
+    {
+        (self.waiting.len() + self.leased.len()) as u32
+    }
+
+    /// The nodes, and each waiting square left open with its bound. Where they are the squares of one tree, they come in its preorder.
+    pub fn into_nodes(self) -> NodeList
+        requires { self.leased ≡ [] }
+        ensures nodes { IsPermutation (self.nodes ++ map left_of self.waiting) result }
+        ensures preorder { (t : Tree) → Fits t (job_root self.job).level → IsPermutation (squares_of self) (preorder t (job_root self.job))
+            → map tree_square result ≡ preorder t (job_root self.job) }
+    {
+        let root = root_of(&self.job);
+        let waiting = self.waiting;
+        let mut log = self.log;
+        log_waiting(waiting, &mut log);
+        log.in_preorder(root)
+    }
+}
+
+/// A copy of a job.
+fn copy_of(job: &Job) -> Result<Job, NoMemory>
+    ensures { IfOk result (λ copy. copy ≡ job.now) }
+{
+    let Ok(instance) = job.instance.clone() else {
+        return Err(NoMemory);
+    };
+    Ok(Job {
+        instance,
+        gap: job.gap,
+        budget: job.budget,
+        pool: job.pool,
+        root: job.root,
+        start: job.start,
+    })
+}
+
+/// The starting square of a job.
+fn root_of(job: &Job) -> Square
+    ensures { result ≡ job_root job.now }
+{
+    job.root
+}
+
+/// An empty list with room for so many entries.
+fn room_for(alloc: Global, room: u32) -> Result<Vec<Entry>, NoMemory>
+    ensures { IfOk result (λ entries. (entries.items ≡ []) × (vec_capacity entries ≡ room)) }
+{
+    match Vec::with_capacity(alloc, room as usize) {
+        Ok(entries) => Ok(entries),
+        Err(_) => Err(NoMemory),
+    }
+}
+
+/// Lets the squares left open wait, raised, with their bounds, and logs the other nodes in order.
+fn sort_out(nodes: &[Node], waiting: &mut Heap, log: &mut Log)
+    requires waiting { left_count nodes.now ≤ waiting.old.spare }
+    requires log { length (closed_nodes nodes.now) ≤ log.old.spare }
+    requires nothing_waits { waiting.old.entries ≡ [] }
+    requires nothing_logged { log.old.nodes ≡ [] }
+    ensures waiting { IsPermutation (filter is_left_open nodes.now) (map left_of waiting.new.entries) }
+    ensures raised { All (λ (e : entries.Entry). e.raised ≡ true) waiting.new.entries }
+    ensures waiting_room { length waiting.new.entries + waiting.new.spare ≡ waiting.old.spare }
+    ensures nodes { log.new.nodes ≡ closed_nodes nodes.now }
+    ensures log_room { length log.new.nodes + log.new.spare ≡ log.old.spare }
+{
+    for node in nodes {
+        match node.mark {
+            Mark::Left(bound) => waiting.push(Entry {
+                square: node.square,
+                bound,
+                raised: true,
+            }),
+            _ => log.push(*node),
+        }
+    }
+}
+
+/// Logs each entry that waits as left open with its bound.
+fn log_waiting(mut waiting: Heap, log: &mut Log)
+    requires { length waiting.entries ≤ log.old.spare }
+    ensures { IsPermutation (log.old.nodes ++ map left_of waiting.entries) log.new.nodes }
+{
+    while let Some(entry) = waiting.pop() {
+        log.push(Node {
+            square: entry.square,
+            mark: Mark::Left(entry.bound),
+        });
+    }
+}

@@ -1,0 +1,209 @@
+//! Tests of the pool.
+
+ghost use Rattle.std.specs.Prelude.{◌≡◌, ◌≤◌, [], IsTrue, Some};
+ghost use Rattle.siting_definitions.specs.Marks as marks;
+ghost use Rattle.siting_definitions.specs.Marks.{IsAtMost, IsCalledFor, IsNoneOrAtLeast};
+ghost use Rattle.pool_core.specs.Job as jobs;
+ghost use Rattle.pool_core.specs.Job.{start_cost};
+ghost use Rattle.pool_core.specs.Begun.{IsResumable};
+
+use super::*;
+use candidate_sites::{centre_site, opening};
+use convex_region::Polygon;
+use discard_log::{Log, Mark, Node, NodeList};
+use dyadic_square::Square;
+use exact_geometry::Place;
+use exclusion::excluded;
+use objectives::{cost_of, fine, reaches};
+use site_model::{DemandPt, Instance, Kind, Site};
+use std::alloc::Global;
+use std::process::Abort;
+
+#[tactic(auto, unfolding(siting_definitions::specs::Instance::weight))]
+fn instance(rt: &impl Abort, alloc: Global) -> Instance {
+    let square = [
+        Place::of(0, 0),
+        Place::of(4, 0),
+        Place::of(4, 4),
+        Place::of(0, 4),
+    ];
+    let polygon = Polygon::build(alloc, &square).expect(rt, "a polygon");
+    let points = Vec::from_array(alloc, [DemandPt::of(2, 2, 1, None)]).expect(rt, "memory");
+    let permitted = Vec::from_array(alloc, [polygon]).expect(rt, "memory");
+    let forbidden = Vec::new(alloc);
+    Instance::build(Kind::Sum, points, permitted, forbidden)
+}
+
+/// The job of the instance with a gap of 185, from its corner.
+fn job(rt: &impl Abort, alloc: Global, budget: u32, pool: u32) -> Job
+    requires budget { budget ≤ 1000000 }
+    requires pool_least { 1 ≤ pool }
+    requires pool_most { pool ≤ 1000000 }
+{
+    let instance = instance(rt, alloc);
+    let _count = instance.points().len();
+    let site = Site::of(0, 0);
+    assert!(rt; instance.permits(site.pt()));
+    let (_, upper) = cost_of(&instance, site);
+    assert_eq!(rt; upper, 185364);
+    Job::new(instance, 185, budget, pool, Some((site, upper)))
+}
+
+/// Leases a square, judges it, and gives it back.
+fn step(
+    rt: &impl Abort,
+    pool: &mut Pool,
+    job: &Job,
+    seen: Option<i64>,
+) -> (Square, i64, bool, Finding, Given)
+    requires job { pool.old.job ≡ job.now }
+    requires leased { pool.old.leased ≡ [] }
+    ensures job { pool.new.job ≡ job.now }
+    ensures leased { pool.new.leased ≡ [] }
+{
+    let lease = match pool.lease() {
+        LeaseAnswer::Leased(lease) => lease,
+        _ => panic!(rt; "no lease"),
+    };
+    let (square, bound, raised) = (lease.square(), lease.bound(), lease.raised());
+    let verdict = judge(job, &lease, seen);
+    let finding = verdict.finding;
+    let given = pool.give_back(lease, verdict);
+    (square, bound, raised, finding, given)
+}
+
+#[test]
+fn one_split_by_hand(rt: HostRuntime) {
+    let job = job(&rt, rt.alloc(), 1000, 100000);
+    let mut pool = Pool::begin(rt.alloc(), &job).expect(&rt, "memory");
+    assert_eq!(rt; pool.open_count(), 1);
+    let root = Square::of(0, 0, 19);
+    assert_eq!(rt;
+        step(&rt, &mut pool, &job, Some(185364)),
+        (root, 0, false, Finding::Part(0), Given::Parted)
+    );
+    assert_eq!(rt; pool.open_count(), 4);
+    assert_eq!(rt; pool.leases(), 1);
+    assert_eq!(rt; pool.stop(), None);
+}
+
+/// The upper cost of a site, if there is one, in cost units.
+fn cost_in(best: &Option<(Site, i64)>) -> Option<i64>
+    ensures { result ≡ jobs.cost_in best.now }
+{
+    match *best {
+        None => None,
+        Some((_, upper)) => Some(upper),
+    }
+}
+
+/// The finished mark of a leaf.
+#[tactic(auto, unfolding(siting_definitions::specs::Marks::leaf_mark))]
+fn leaf_mark(job: &Job, square: Square) -> Mark
+    ensures { result ≡ marks.leaf_mark job.now.instance job.now.gap (start_cost job.now) square }
+{
+    if excluded(&job.instance, square) {
+        return Mark::Shut;
+    }
+    let bound = fine(&job.instance, square);
+    if reaches(cost_in(&job.start), bound, job.gap) {
+        return Mark::Bounded(bound);
+    }
+    if square.level == 0 {
+        Mark::Floor(bound)
+    } else {
+        Mark::Left(bound)
+    }
+}
+
+/// A leaf as a node.
+fn leaf(job: &Job, square: Square) -> Node
+    ensures { result ≡ record { square = square; mark = marks.leaf_mark job.now.instance job.now.gap (start_cost job.now) square } }
+{
+    Node {
+        square,
+        mark: leaf_mark(job, square),
+    }
+}
+
+/// Whether there is a number, and it is at most `seen`.
+fn is_at_most(number: Option<i64>, seen: i64) -> bool
+    ensures { IsTrue result → IsAtMost number seen }
+{
+    match number {
+        None => false,
+        Some(number) => number <= seen,
+    }
+}
+
+/// Whether there is no number, or it is at least `seen`.
+fn is_none_or_at_least(number: Option<i64>, seen: i64) -> bool
+    ensures { IsTrue result → IsNoneOrAtLeast number seen }
+{
+    match number {
+        None => true,
+        Some(number) => number >= seen,
+    }
+}
+
+/// Checks that a cut was called for, after `seen` was seen.
+fn check_split(rt: &impl Abort, job: &Job, square: Square, seen: i64)
+    ensures { IsCalledFor job.now.instance job.now.gap (start_cost job.now) square (Some seen) }
+{
+    assert!(rt; square.level > 0);
+    assert!(rt; !excluded(&job.instance, square));
+    assert!(rt; is_at_most(cost_in(&job.start), seen));
+    assert!(rt; !reaches(Some(seen), fine(&job.instance, square), job.gap));
+    let opening = opening(&job.instance);
+    assert!(rt; is_none_or_at_least(cost_in(&opening), seen));
+    let centre = centre_site(&job.instance, square);
+    assert!(rt; is_none_or_at_least(cost_in(&centre), seen));
+}
+
+/// The nodes of the tree in which the root alone is split.
+fn nodes(rt: &impl Abort, alloc: Global, job: &Job) -> NodeList
+    requires budget { 1 ≤ job.now.budget }
+    requires pool { 5 ≤ job.now.pool }
+    ensures { IsResumable job.now result 1 }
+{
+    let root = job.root;
+    check_split(rt, job, root, 185364);
+    let mut log = Log::with_room(alloc, 5).expect(rt, "memory");
+    log.push(Node {
+        square: root,
+        mark: Mark::Split(Some(185364)),
+    });
+    log.push(leaf(job, root.quarter(0)));
+    log.push(leaf(job, root.quarter(1)));
+    log.push(leaf(job, root.quarter(2)));
+    log.push(leaf(job, root.quarter(3)));
+    log.in_preorder(root)
+}
+
+#[test]
+fn squares_left_open(rt: HostRuntime) {
+    let job = job(&rt, rt.alloc(), 10, 100000);
+    assert!(rt; job.budget == 10);
+    assert!(rt; job.pool == 100000);
+    let nodes = nodes(&rt, rt.alloc(), &job);
+    let marks = [
+        Mark::Split(Some(185364)),
+        Mark::Left(0),
+        Mark::Left(131072),
+        Mark::Left(131072),
+        Mark::Bounded(185363),
+    ];
+    for (node, mark) in nodes.nodes().iter().zip(marks) {
+        assert_eq!(rt; node.mark, mark);
+    }
+    let mut pool = Pool::begin_from(rt.alloc(), &job, &nodes, 1).expect(&rt, "memory");
+    assert_eq!(rt; pool.open_count(), 3);
+    let first = Square::of(0, 0, 18);
+    assert_eq!(rt;
+        step(&rt, &mut pool, &job, Some(185364)),
+        (first, 0, true, Finding::Part(0), Given::Parted)
+    );
+    assert_eq!(rt; pool.open_count(), 6);
+    assert_eq!(rt; pool.leases(), 2);
+    assert_eq!(rt; pool.into_nodes().nodes().len(), 9);
+}

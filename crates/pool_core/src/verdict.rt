@@ -1,0 +1,105 @@
+//! The verdict on a leased square.
+
+ghost use Rattle.std.specs.Prelude.{◌≡◌, nat_lt, pos, ◌+ℤ◌, ◌-ℤ◌, int_le, ◌&&◌, not};
+ghost use Rattle.siting_definitions.specs.Instance.{weight};
+ghost use Rattle.siting_definitions.specs.Marks as marks;
+ghost use Rattle.pool_core.specs.Verdict.{finding_of, finding_of_coarse, finding_of_fine};
+
+use crate::job::Job;
+use crate::lease::Lease;
+use dyadic_square::Square;
+use exclusion::excluded;
+use objectives::{coarse, fine, reaches};
+
+/// What is found of a leased square. Each number is a lower bound on it, in cost units.
+#[derive(Clone, Copy, Debug, PartialEq, Eq)]
+pub enum Finding {
+    /// No point of it is permitted.
+    Excluded,
+    /// The gap settles it, by this bound.
+    Bounded(i64),
+    /// Its fine bound is to decide: the square waits again with it.
+    Raise(i64),
+    /// It is to be cut into its quarters, which wait with this bound.
+    Part(i64),
+    /// It has level 0, and the gap doesn't settle its fine bound.
+    Floor(i64),
+}
+
+/// A finding, and the number of the incumbent, in cost units, that was seen for it, if there was one.
+#[derive(Clone, Copy, Debug, PartialEq, Eq)]
+pub struct Verdict {
+    /// The number that was seen.
+    pub seen: Option<i64>,
+    /// What was found.
+    pub finding: Finding,
+}
+
+/// The verdict on a leased square, after `seen` was seen of the incumbent, in cost units.
+#[tactic(auto, unfolding(crate::specs::Verdict::finding_of))]
+pub fn judge(job: &Job, lease: &Lease, seen: Option<i64>) -> Verdict
+    ensures seen { result.seen ≡ seen }
+    ensures finding { result.finding ≡ finding_of job.now lease.now seen }
+{
+    let square = lease.square();
+    let bound = lease.bound();
+    let finding = if excluded(&job.instance, square) {
+        Finding::Excluded
+    } else if lease.raised() {
+        judge_fine(job, square, bound, seen)
+    } else {
+        judge_coarse(job, square, bound.max(coarse(&job.instance, square)), seen)
+    };
+    Verdict { seen, finding }
+}
+
+/// The finding on a square with its fine bound, in cost units.
+fn judge_fine(job: &Job, square: Square, bound: i64, seen: Option<i64>) -> Finding
+    ensures { result ≡ finding_of_fine job.now square bound seen }
+{
+    if reaches(seen, bound, job.gap) {
+        Finding::Bounded(bound)
+    } else if square.level == 0 {
+        Finding::Floor(bound)
+    } else {
+        Finding::Part(bound)
+    }
+}
+
+/// The finding on a square whose bound, in cost units, is at most its fine bound, and less by less than the instance's weight.
+fn judge_coarse(job: &Job, square: Square, bound: i64, seen: Option<i64>) -> Finding
+    ensures { result ≡ finding_of_coarse job.now square bound seen }
+{
+    if reaches(seen, bound, job.gap) {
+        Finding::Bounded(bound)
+    } else if is_for_parting(job, square, bound, seen) {
+        Finding::Part(bound)
+    } else {
+        Finding::Raise(fine(&job.instance, square))
+    }
+}
+
+/// Whether a square is to be cut before its fine bound is known: it can be cut, and no fine bound would settle it.
+fn is_for_parting(job: &Job, square: Square, bound: i64, seen: Option<i64>) -> bool
+    ensures { result ≡ (nat_lt 0 square.level
+        && not (marks.reaches seen (((bound +ℤ pos (weight job.now.instance.points)) -ℤ pos 1) +ℤ job.now.gap))) }
+{
+    square.level > 0 && !reaches_beyond(seen, bound, job.instance.weight(), job.gap)
+}
+
+/// Whether there is a least upper cost, and it is at most the sum of a bound, a weight less 1, and the gap, all in cost units.
+fn reaches_beyond(least: Option<i64>, bound: i64, weight: i64, gap: i64) -> bool
+    ensures { result ≡ marks.reaches least (((bound +ℤ weight) -ℤ pos 1) +ℤ gap) }
+{
+    match least {
+        None => false,
+        Some(upper) => is_at_most(upper, bound, weight, gap),
+    }
+}
+
+/// Whether a cost is at most the sum of a bound, a weight less 1, and the gap, all in cost units.
+fn is_at_most(upper: i64, bound: i64, weight: i64, gap: i64) -> bool
+    ensures { result ≡ int_le upper (((bound +ℤ weight) -ℤ pos 1) +ℤ gap) }
+{
+    upper as i128 <= bound as i128 + weight as i128 - 1 + gap as i128
+}

@@ -1,0 +1,6 @@
+mod FinishedMarks
+mod SplitNodes
+mod Remarking
+mod EndingLemmas
+mod ListedLemmas
+mod SearchLemmas

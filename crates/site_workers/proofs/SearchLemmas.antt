@@ -1,0 +1,183 @@
+-- The search by one worker: what holds between two leases.
+use Rattle.std.proofs.Common.{◌≡◌, ℕ, ◌+◌, ◌<◌, ◌≤◌, ℤ, ◌≤ℤ◌, ◌<ℤ◌, Bool, true, false, cond, List, [], ◌∷◌, Option, None, Some, length, refl, sym, ap, ◌∙◌, subst, ◌⊎◌, inl, inr, ⊎_elim, arith}
+use Rattle.std.specs.Prelude.{⊤, MatchOption, option_map, int_lt, IsPermutation}
+use Rattle.std.specs.Int.{int_min}
+use Rattle.std.proofs.lemmas.Bool.{cases_Bool, true≢false, false≢true}
+use Rattle.std.specs.List.{Contains}
+use Rattle.std.proofs.lemmas.Int.{clamps}
+use Rattle.std.proofs.lemmas.List.Sorted.{length_permutation, Contains-permutation}
+use borrow.Author.Differences.{ints}
+use Rattle.siting_definitions.specs.Point.{Pt}
+use Rattle.siting_definitions.specs.Instance.{Instance}
+use Rattle.siting_definitions.specs.Square.{Square}
+use Rattle.siting_definitions.specs.Sites.{centre_cost, centre_site_of}
+use Rattle.siting_definitions.specs.Bounds.{upper_of}
+use Rattle.siting_definitions.specs.Marks.{IsAtMost, IsNoneOrAtLeast, lesser}
+use Rattle.bound_heap.specs.declared.entry.Entry.{Entry}
+use Rattle.pool_core.specs.declared.stop.Stop.{Stop}
+use Rattle.pool_core.specs.declared.stop.Stop.TheVariants.{PoolFull, Budget}
+use Rattle.pool_core.specs.declared.verdict.Finding.{Finding}
+use Rattle.pool_core.specs.Job.{Job, IsJob, IsLawful, IsOffer, cost_in, start_cost}
+use Rattle.pool_core.specs.Verdict.{finding_of, is_part}
+use Rattle.pool_core.specs.State.{State, World, open_count}
+use Rattle.pool_core.specs.Machine.{Leases, Halts, Returns, MayReturn, IsSeen, Lease, Halt, Offer, Return, Step, is_kept, first_stop}
+use Rattle.pool_core.specs.Sound.{IsSound, IsPoolOf, IsFinished}
+use Rattle.pool_core.proofs.SoundSteps.{sound_lease, sound_halt, sound_offer, sound_return}
+use Rattle.site_workers.specs.Ending.{IsImproved, is_full}
+use Rattle.site_workers.specs.Search.{IsBetween, better_of, centre_offer}
+
+some≢none : {X : Type 0} (x : X) → Some x ≡ None → ⊥
+some≢none x e = grind (arith)
+
+-- ---- the best site
+better-cost : (best offered : Option (Pt × ℤ)) → cost_in (better_of best offered) ≡ lesser (cost_in best) (cost_in offered)
+better-cost None None = refl
+better-cost (Some b) None = refl
+better-cost None (Some o) = refl
+better-cost (Some b) (Some o) = ⊎_elim (λ t. rw t (ap Some (omega (arith, ints, clamps, less t)))) (λ f. rw f (ap Some (omega (arith, ints, clamps, more f)))) (cases_Bool (int_lt o.1 b.1))
+  where
+    less : int_lt o.1 b.1 ≡ true → o.1 <ℤ b.1
+    less t = grind (arith, ints)
+
+    more : int_lt o.1 b.1 ≡ false → b.1 ≤ℤ o.1
+    more f = grind (arith, ints)
+
+better-offer : (i : Instance) (best offered : Option (Pt × ℤ)) → MatchOption best ⊤ (λ b. IsOffer i b.0 b.1) → MatchOption offered ⊤ (λ b. IsOffer i b.0 b.1) → MatchOption (better_of best offered) ⊤ (λ b. IsOffer i b.0 b.1)
+better-offer i best None h k = h
+better-offer i None (Some o) h k = k
+better-offer i (Some b) (Some o) h k = ⊎_elim (λ t. rw t k) (λ f. rw f h) (cases_Bool (int_lt o.1 b.1))
+
+improved-more : (start best offered : Option (Pt × ℤ)) → IsImproved start best → IsImproved start (better_of best offered)
+improved-more start best None h = h
+improved-more None None (Some o) h = tt
+improved-more (Some s) None (Some o) h = absurd (some≢none s h)
+improved-more None (Some b) (Some o) h = ⊎_elim (λ t. rw t tt) (λ f. rw f tt) (cases_Bool (int_lt o.1 b.1))
+improved-more (Some s) (Some b) (Some o) h = ⊎_elim (λ t. rw t (inr (below h (less t)))) (λ f. rw f h) (cases_Bool (int_lt o.1 b.1))
+  where
+    less : int_lt o.1 b.1 ≡ true → o.1 <ℤ b.1
+    less t = grind (arith, ints)
+
+    below : ((b ≡ s) ⊎ (b.1 <ℤ s.1)) → o.1 <ℤ b.1 → o.1 <ℤ s.1
+    below (inl e) k = subst (λ (z : Pt × ℤ). o.1 <ℤ z.1) e k
+    below (inr l) k = omega (arith, ints)
+
+improved-itself : (start : Option (Pt × ℤ)) → IsImproved start start
+improved-itself None = refl
+improved-itself (Some s) = inl refl
+
+-- ---- what may be seen
+seen_itself : (j : Job) (best : Option (Pt × ℤ)) → IsImproved j.start best → IsSeen j (cost_in best) (cost_in best)
+seen_itself j None h = h
+seen_itself j (Some b) h = (omega (arith, ints), at_most_start j.start h)
+  where
+    at_most_start : (start : Option (Pt × ℤ)) → IsImproved start (Some b) → IsNoneOrAtLeast (cost_in start) b.1
+    at_most_start None h = tt
+    at_most_start (Some s) (inl e) = subst (λ (z : Pt × ℤ). b.1 ≤ℤ z.1) e (omega (arith, ints))
+    at_most_start (Some s) (inr l) = omega (arith, ints)
+
+centre-cost : (i : Instance) (s : Square) → cost_in (centre_offer i s) ≡ centre_cost i s
+centre-cost i s = costs (centre_site_of i s)
+  where
+    costs : (z : Option Pt) → cost_in (option_map (λ (z : Pt). (z, upper_of i z)) z) ≡ option_map (upper_of i) z
+    costs None = refl
+    costs (Some z) = refl
+
+-- the best site costs no more than one that was offered
+better-most : (best offered : Option (Pt × ℤ)) → MatchOption (cost_in offered) ⊤ (IsAtMost (cost_in (better_of best offered)))
+better-most best None = tt
+better-most None (Some o) = omega (arith, ints)
+better-most (Some b) (Some o) = ⊎_elim (λ t. rw t (omega (arith, ints))) (λ f. rw f (most f)) (cases_Bool (int_lt o.1 b.1))
+  where
+    most : int_lt o.1 b.1 ≡ false → b.1 ≤ℤ o.1
+    most f = grind (arith, ints)
+
+-- ---- between two leases
+pub begun : (j : Job) (s : State) → IsJob j → IsPoolOf j s → IsBetween j s s j.start
+begun j s job h = record {
+  job = h.job;
+  leased = h.leased;
+  sound = h.sound;
+  best_is = job.start;
+  improved = improved-itself j.start;
+  beginning = refl;
+  kept = h.sound.consistent.counts.going h.going ∙ sym (ap (λ (stop : Option Stop). cond (is_full stop) 1 0) h.going);
+}
+
+-- one lease, of which the search gave back the square
+pub record IsTurn (j : Job) (e : Entry) (best best' : Option (Pt × ℤ)) (s s1 s2 : State) : Type 0 where
+  pub leases : Leases e s s1
+  pub best_is : best' ≡ better_of best (centre_offer j.instance e.square)
+  pub offer : MatchOption (centre_offer j.instance e.square) ⊤ (λ o. IsOffer j.instance o.0 o.1)
+  pub returns : Returns e (cost_in best') (finding_of j e (cost_in best')) s1 s2
+
+sound_offered : (s : State) (best offered : Option (Pt × ℤ)) → MatchOption offered ⊤ (λ o. IsOffer s.job.instance o.0 o.1) → IsSound (record { pool = s; least = cost_in best }) → IsSound (record { pool = s; least = cost_in (better_of best offered) })
+sound_offered s best None h sound = sound
+sound_offered s best (Some o) h sound =
+    sound_offer o.0 (record { pool = s; least = cost_in best }) (record { pool = s; least = cost_in (better_of best (Some o)) }) (o.1, h, refl, better-cost best (Some o)) sound
+
+kept_after : (kept : Bool) (n count count' : ℕ) (stop stop' : Option Stop) → stop ≡ None → count ≡ 0 → count' ≡ count + cond kept 1 0 → stop' ≡ cond kept (first_stop stop (PoolFull n)) stop → count' ≡ cond (is_full stop') 1 0
+kept_after true n count count' stop stop' none e e' f = rw (f, none) (omega (arith, e, e'))
+kept_after false n count count' stop stop' none e e' f = rw (f, none) (omega (arith, e, e'))
+
+no_length : {X : Type 0} (xs : List X) → length xs ≡ 0 → xs ≡ []
+no_length [] e = refl
+no_length (x ∷ xs) e = absurd (omega arith)
+
+pub leased_one : (s s1 : State) (e : Entry) → Leases e s s1 → Contains s1.leased e
+leased_one s s1 e l = Contains-permutation (e ∷ s.leased) s1.leased e l.leased (0, omega arith, refl)
+
+turned_from : (first s s1 s2 : State) (e : Entry) (best best' : Option (Pt × ℤ)) → IsBetween s1.job first s best → IsTurn s1.job e best best' s s1 s2 → IsBetween s1.job first s2 best'
+turned_from first s s1 s2 e best best' b t =
+    let offered = centre_offer s1.job.instance e.square in
+    let u = cost_in best in
+    let u' = cost_in best' in
+    let leased = sound_lease e (record { pool = s; least = u }) (record { pool = s1; least = u }) (t.leases, refl) b.sound in
+    let priced : IsSound (record { pool = s1; least = u' }) = subst (λ (z : Option (Pt × ℤ)). IsSound (record { pool = s1; least = cost_in z })) (sym t.best_is) (sound_offered s1 best offered t.offer leased) in
+    let improved : IsImproved s1.job.start best' = subst (IsImproved s1.job.start) (sym t.best_is) (improved-more s1.job.start best offered b.improved) in
+    let most : MatchOption (centre_cost s1.job.instance e.square) ⊤ (IsAtMost u') =
+    subst (λ (o : Option ℤ). MatchOption o ⊤ (IsAtMost u')) (centre-cost s1.job.instance e.square)
+    (subst (λ (z : Option (Pt × ℤ)). MatchOption (cost_in offered) ⊤ (IsAtMost (cost_in z))) (sym t.best_is) (better-most best offered)) in
+    let may : MayReturn e u' (record { pool = s1; least = u' }) = record { seen_is = seen_itself s1.job best' improved; centre = λ part. most } in
+    let none : s.leased ≡ [] = b.leased in
+    let one : length s1.leased ≡ 1 = let p = length_permutation (e ∷ s.leased) s1.leased t.leases.leased in omega (arith, ap length none, p) in
+    let rest : length s2.leased ≡ 0 = let p = length_permutation s1.leased (e ∷ s2.leased) t.returns.leased in omega (arith, one, p) in
+    record {
+      job = t.returns.job;
+      leased = no_length s2.leased rest;
+      sound = sound_return e u' (record { pool = s1; least = u' }) (record { pool = s2; least = u' }) (may, t.returns, refl) priced;
+      best_is = subst (λ (z : Option (Pt × ℤ)). MatchOption z ⊤ (λ o. IsOffer s1.job.instance o.0 o.1)) (sym t.best_is) (better-offer s1.job.instance best offered b.best_is t.offer);
+      improved = improved;
+      beginning = t.returns.beginning ∙ t.leases.beginning ∙ b.beginning;
+      kept = kept_after (is_kept s1 (finding_of s1.job e u')) (open_count s1) s1.kept s2.kept s1.stop s2.stop (t.leases.stop ∙ t.leases.going)
+          (t.leases.kept ∙ b.kept ∙ ap (λ (stop : Option Stop). cond (is_full stop) 1 0) t.leases.going) t.returns.kept t.returns.stop;
+    }
+
+pub turned : (j : Job) (first s s1 s2 : State) (e : Entry) (best best' : Option (Pt × ℤ)) → IsBetween j first s best → IsTurn j e best best' s s1 s2 → IsBetween j first s2 best'
+turned j first s s1 s2 e best best' b t =
+    let same : s1.job ≡ j = t.leases.job ∙ b.job in
+    subst (λ (k : Job). IsBetween k first s2 best') same
+    (turned_from first s s1 s2 e best best' (subst (λ (k : Job). IsBetween k first s best) (sym same) b) (subst (λ (k : Job). IsTurn k e best best' s s1 s2) (sym same) t))
+
+-- ---- the end
+pub done : (j : Job) (first s : State) (best : Option (Pt × ℤ)) → IsBetween j first s best → s.waiting ≡ [] → IsFinished j s best
+done j first s best b none = record { job = b.job; leased = b.leased; ended = λ going. none; sound = b.sound; best_is = b.best_is }
+
+-- a stop was there, or it comes at the spent budget
+pub stopped : (j : Job) (first s s' : State) (stop : Stop) (best : Option (Pt × ℤ)) → IsBetween j first s best → (s'.stop ≡ Some stop) → ((s' ≡ s) ⊎ Halts s s') → IsBetween j first s' best
+stopped j first s s' stop best b said (inl same) = subst (λ (t : State). IsBetween j first t best) (sym same) b
+stopped j first s s' stop best b said (inr halts) =
+    let sound = sound_halt (record { pool = s; least = cost_in best }) (record { pool = s'; least = cost_in best }) (halts, refl) b.sound in
+    let none : s.stop ≡ None = halts.going in
+    let after = halts.halted in
+    record {
+      job = ap (λ (t : State). t.job) after ∙ b.job;
+      leased = ap (λ (t : State). t.leased) after ∙ b.leased;
+      sound = sound;
+      best_is = b.best_is;
+      improved = b.improved;
+      beginning = ap (λ (t : State). t.beginning) after ∙ b.beginning;
+      kept = ap (λ (t : State). t.kept) after ∙ b.kept ∙ ap (λ (o : Option Stop). cond (is_full o) 1 0) none ∙ sym (ap (λ (t : State). cond (is_full t.stop) 1 0) after);
+    }
+
+pub halted : (j : Job) (first s : State) (stop : Stop) (best : Option (Pt × ℤ)) → IsBetween j first s best → s.stop ≡ Some stop → IsFinished j s best
+halted j first s stop best b said = record { job = b.job; leased = b.leased; ended = λ going. absurd (some≢none stop (sym said ∙ going)); sound = b.sound; best_is = b.best_is }

@@ -1,0 +1,187 @@
+//! The answer that a search ends with.
+
+ghost use Rattle.std.specs.Prelude.{◌≡◌, ℕ, ◌+◌, ◌<◌, ◌≤◌, ◌^◌, map, length, is_some, All, false, slice_set, slice_index_or};
+ghost use Rattle.siting_definitions.specs.Answer.{IsHead, IsMark, IsWorkedBy};
+ghost use Rattle.siting_definitions.specs.Marks as marks;
+ghost use Rattle.discard_log.specs.declared.node.Node as nodes_of;
+ghost use Rattle.pool_core.specs.Sound.{IsFinished};
+ghost use Rattle.pool_core.specs.Job.{cost_in};
+ghost use Rattle.certificate.specs.Inside.{best_of};
+ghost use Rattle.certificate.specs.Written.{mark_of};
+ghost use Rattle.site_workers.specs.Ending.{Finishes, IsKeptBy, answer_of, best_by, finished_node, head_by};
+ghost use Rattle.site_workers.specs.Ending as endings;
+
+use crate::closed::Closed;
+use certificate::{Head, Tally, Word};
+use discard_log::{Mark, NodeList};
+use dyadic_square::Square;
+use exclusion::excluded;
+use objectives::{cost_of, fine, reaches};
+use pool_core::{Job, Stop};
+use site_model::{Instance, Site};
+
+/// The answer of a search that ended: each leaf gets its finished mark, the bound is the least of these, and the word is the one that they
+/// call for.
+pub fn finish(job: Job, closed: Closed) -> (Head, NodeList)
+    requires { IsFinished job closed.pool closed.best }
+    ensures answer { Finishes job closed.pool closed.best result.0 result.1 }
+    ensures worked { (workers : ℕ) → IsKeptBy closed.pool workers → IsWorkedBy (answer_of result.0 result.1) workers }
+{
+    let Closed { pool, best } = closed;
+    let stop = pool.stop();
+    let leases = pool.leases();
+    let mut nodes = pool.into_nodes();
+    let tally = finish_marks(&job, least_of(&best), &mut nodes);
+    let head = head_of(job, &best, &tally, stop, leases);
+    (head, nodes)
+}
+
+/// Gives each leaf its finished mark, for the least upper cost, and counts the marks.
+fn finish_marks(job: &Job, least: Option<i64>, nodes: &mut NodeList) -> Tally
+    requires few { length nodes.old < 2 ^ 40 }
+    ensures nodes { nodes.new ≡ map (finished_node job.now least) nodes.old }
+    ensures ranges { All IsMark (map mark_of nodes.new) }
+    ensures tally { result ≡ marks.tally_of (map mark_of nodes.new) }
+{
+    let mut tally = Tally::new();
+    for i in 0..nodes.nodes().len() {
+        let mark = finish_node(job, least, nodes, i);
+        tally.add(mark);
+    }
+    tally
+}
+
+/// Gives the node at place `i` its finished mark, for the least upper cost.
+fn finish_node(job: &Job, least: Option<i64>, nodes: &mut NodeList, i: usize) -> Mark
+    requires place { i < length nodes.old }
+    ensures nodes { (d : nodes_of.Node) → nodes.new ≡ slice_set nodes.old i (finished_node job.now least (slice_index_or nodes.old i d)) }
+    ensures mark { (d : nodes_of.Node) → result ≡ endings.finished_mark job.now least (slice_index_or nodes.old i d) }
+    ensures range { IsMark result }
+{
+    let node = nodes.nodes()[i];
+    if is_split(node.mark) {
+        return node.mark;
+    }
+    let mark = leaf_mark(job, least, node.square);
+    nodes.remark(i, mark);
+    mark
+}
+
+/// Whether a mark is that of a split square.
+fn is_split(mark: Mark) -> bool
+    ensures value { result ≡ marks.is_split mark }
+    ensures range { IsMark mark }
+{
+    match mark {
+        Mark::Split(_) => true,
+        Mark::Shut | Mark::Bounded(_) | Mark::Floor(_) | Mark::Left(_) => false,
+    }
+}
+
+/// The finished mark of a leaf, for the gap and the least upper cost.
+#[tactic(auto, unfolding(siting_definitions::specs::Marks::leaf_mark))]
+fn leaf_mark(job: &Job, least: Option<i64>, sq: Square) -> Mark
+    ensures value { result ≡ marks.leaf_mark job.now.instance job.now.gap least sq }
+    ensures leaf { marks.is_split result ≡ false }
+    ensures range { IsMark result }
+{
+    if excluded(&job.instance, sq) {
+        return Mark::Shut;
+    }
+    let bound = fine(&job.instance, sq);
+    if reaches(least, bound, job.gap) {
+        return Mark::Bounded(bound);
+    }
+    if sq.level == 0 {
+        Mark::Floor(bound)
+    } else {
+        Mark::Left(bound)
+    }
+}
+
+/// The upper cost of the best site, in cost units.
+fn least_of(best: &Option<(Site, i64)>) -> Option<i64>
+    ensures { result ≡ cost_in best.now }
+{
+    match *best {
+        None => None,
+        Some((_, upper)) => Some(upper),
+    }
+}
+
+/// The head of the answer to a job, by the best site, the tally of the marks, the stop and the number of leases.
+fn head_of(
+    job: Job,
+    best: &Option<(Site, i64)>,
+    tally: &Tally,
+    stop: Option<Stop>,
+    leases: u32,
+) -> Head
+    requires leases { leases ≤ 1000000 }
+    requires open_count { endings.open_for (endings.ending_word tally.now stop) stop ≤ 1000000 }
+    ensures value { result ≡ head_by job best.now tally.now stop leases }
+    ensures range { IsHead result }
+{
+    let (site, cost) = priced(&job.instance, best);
+    let word = word_of(tally, stop);
+    Head {
+        instance: job.instance,
+        gap: job.gap,
+        budget: job.budget,
+        pool: job.pool,
+        site,
+        cost,
+        bound: tally.least,
+        word,
+        open_count: open_for(word, stop),
+        leases,
+    }
+}
+
+/// The best site, and its lower and its upper cost, in cost units.
+fn priced(instance: &Instance, best: &Option<(Site, i64)>) -> (Option<Site>, Option<(i64, i64)>)
+    ensures best { best_of result.0 result.1 ≡ best_by instance.now best.now }
+    ensures there { is_some result.1 ≡ is_some result.0 }
+{
+    match *best {
+        None => (None, None),
+        Some((site, _)) => (Some(site), Some(cost_of(instance, site))),
+    }
+}
+
+/// The word of an answer, by the tally of its marks and by the stop.
+fn word_of(tally: &Tally, stop: Option<Stop>) -> Word
+    ensures { result ≡ endings.ending_word tally.now stop }
+{
+    if tally.least.is_none() {
+        return Word::Empty;
+    }
+    if tally.open_leaves > 0 {
+        return stop_word(stop);
+    }
+    if tally.floor_leaves > 0 {
+        Word::Floor
+    } else {
+        Word::Solved
+    }
+}
+
+/// The word of a stop. Without one no leaf is left open, and the word isn't asked for.
+fn stop_word(stop: Option<Stop>) -> Word
+    ensures { result ≡ endings.stop_word stop }
+{
+    match stop {
+        Some(Stop::PoolFull { count: _ }) => Word::PoolFull,
+        Some(Stop::Budget { leases: _ }) | None => Word::Budget,
+    }
+}
+
+/// How many squares were open at the stop, where the word says that the pool was full, and else 0.
+fn open_for(word: Word, stop: Option<Stop>) -> u32
+    ensures { result ≡ endings.open_for word stop }
+{
+    match (word, stop) {
+        (Word::PoolFull, Some(Stop::PoolFull { count })) => count,
+        _ => 0,
+    }
+}

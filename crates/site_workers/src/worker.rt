@@ -1,0 +1,74 @@
+//! The search by one worker.
+
+ghost use Rattle.std.specs.Prelude.{◌≡◌, cond, Contains, MatchOption, ⊤};
+ghost use Rattle.pool_core.specs.Job.{IsOffer, cost_in};
+ghost use Rattle.pool_core.specs.Verdict.{finding_of};
+ghost use Rattle.pool_core.specs.Machine.{Returns};
+ghost use Rattle.pool_core.specs.Sound.{IsFinished, IsPoolOf};
+ghost use Rattle.site_workers.specs.Ending.{IsImproved, is_full};
+ghost use Rattle.site_workers.specs.Search.{better_of, centre_offer};
+
+use crate::closed::Closed;
+use candidate_sites::centre_site;
+use pool_core::{Job, Lease, LeaseAnswer, Pool, judge};
+use site_model::Site;
+
+/// One worker: leases squares, offers the centre site of each, judges it and gives it back, until nothing is open or there is a stop.
+///
+/// It always returns, within the leases that the budget leaves, and takes no memory. Of two sites that cost the same the one that came
+/// first stays, the start before all others.
+pub fn alone(job: &Job, pool: Pool) -> Closed
+    requires { IsPoolOf job.now pool }
+    ensures finished { IsFinished job.now result.pool result.best }
+    ensures beginning { result.pool.beginning ≡ pool.beginning }
+    ensures improved { IsImproved job.now.start result.best }
+    ensures kept { result.pool.kept ≡ cond (is_full result.pool.stop) 1 0 }
+{
+    let mut pool = pool;
+    let mut best = job.start;
+    loop {
+        match pool.lease() {
+            LeaseAnswer::Leased(lease) => best = work(job, &mut pool, lease, &best),
+            LeaseAnswer::Stopped(_) => return Closed { pool, best },
+            LeaseAnswer::Done => return Closed { pool, best },
+            LeaseAnswer::Idle => return Closed { pool, best },
+        }
+    }
+}
+
+/// Offers the centre site of a leased square, judges the square with the best site's cost, and gives it back. The best site, or the centre
+/// site where that costs less.
+fn work(job: &Job, pool: &mut Pool, lease: Lease, best: &Option<(Site, i64)>) -> Option<(Site, i64)>
+    requires job { pool.old.job ≡ job.now }
+    requires leased { Contains pool.old.leased lease }
+    ensures best { result ≡ better_of best.now (centre_offer job.now.instance lease.square) }
+    ensures offer { MatchOption (centre_offer job.now.instance lease.square) ⊤ (λ o. IsOffer job.now.instance o.0 o.1) }
+    ensures returned { Returns lease (cost_in result) (finding_of job.now lease (cost_in result)) pool.old pool.new }
+{
+    let offered = centre_site(&job.instance, lease.square());
+    let best = better(best, &offered);
+    let verdict = judge(job, &lease, cost_of(&best));
+    pool.give_back(lease, verdict);
+    best
+}
+
+/// The better of the best site and one that is offered, each with its upper cost. The best stays where the other doesn't cost less.
+fn better(best: &Option<(Site, i64)>, offered: &Option<(Site, i64)>) -> Option<(Site, i64)>
+    ensures { result ≡ better_of best.now offered.now }
+{
+    match (*best, *offered) {
+        (best, None) => best,
+        (None, offered) => offered,
+        (Some(best), Some(offered)) => Some(if offered.1 < best.1 { offered } else { best }),
+    }
+}
+
+/// The upper cost of the best site, if there is one.
+fn cost_of(best: &Option<(Site, i64)>) -> Option<i64>
+    ensures { result ≡ cost_in best.now }
+{
+    match *best {
+        None => None,
+        Some((_, upper)) => Some(upper),
+    }
+}
