@@ -1,4 +1,4 @@
-//! A whole solve of 4,096 made points, against the same search in ordinary Rust.
+//! A whole solve of 4,096 made points, against the same search in ordinary Rust, and checks of answers.
 
 use std::cmp::{Ordering, Reverse};
 use std::collections::BinaryHeap;
@@ -207,6 +207,17 @@ fn std_solve(i: &Instance) -> (i64, i64, usize, usize) {
     (least, bound, leases, splits + leaves.len())
 }
 
+/// An instance of one town beside a slanted edge, along which many squares stay open.
+const SLANT: &str = "siting 1\nkind sum\npoint -1000000 3 1\npermit 0 -1000000 1000000 -1000000 1000000 1000000 7 999999\nend\n";
+
+/// The best time of two checks of an accepted answer, in milliseconds.
+fn time_of_check(answer: &str) -> f64 {
+    let checked = || run(&["check"], answer.as_bytes());
+    let (said, first) = checked();
+    assert_eq!(said, "accepted\n");
+    first.min(checked().1)
+}
+
 /// Prints the times, and compares costs and bounds.
 pub fn measure() {
     let (made, _) = run(&["make", "seed=7", "points=4096"], b"");
@@ -225,4 +236,10 @@ pub fn measure() {
     assert_eq!(bound, numbers_of(&answer, "bound")[0], "the bounds");
     println!("solving 4,096 made points, ms: the program, the search in ordinary Rust alone ({leases} leases, {squares} squares)");
     println!("  {our_time:.0}, {their_time:.0}");
+    println!("checking that answer, ms: the program");
+    println!("  {:.0}", time_of_check(&answer));
+    let (large, time) = run(&["solve", "gap=0", "budget=1000000", "pool=1000000"], SLANT.as_bytes());
+    let nodes = large.lines().count() - 18;
+    println!("one town, 1,000,000 leases, ms: solving, checking its answer of {} bytes with {nodes} squares", large.len());
+    println!("  {time:.0}, {:.0}", time_of_check(&large));
 }

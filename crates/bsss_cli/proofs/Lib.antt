@@ -1,3 +1,5 @@
 pub mod OutcomeLemmas
 pub mod GapLemmas
 pub mod SolveLemmas
+pub mod CheckLemmas
+pub mod CompleteLemmas

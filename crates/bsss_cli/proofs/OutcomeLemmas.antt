@@ -10,17 +10,19 @@ use Rattle.bsss_cli.specs.declared.words.Settings.{Settings}
 use Rattle.bsss_cli.specs.declared.words.Command.{Command}
 use Rattle.bsss_cli.specs.declared.words.Command.TheVariants.{Solve}
 use Rattle.bsss_cli.specs.declared.status.Status.{Status}
-use Rattle.bsss_cli.specs.declared.status.Status.TheVariants.{Solved, Made, Usage, NotBuilt, BadInstance, ReadFault, WriteFault, NoMemory, TooLong, PoolFull, Budget, Floor, Empty}
+use Rattle.bsss_cli.specs.declared.status.Status.TheVariants.{Solved, Accepted, Made, Usage, NotBuilt, BadInstance, Rejected, ReadFault, WriteFault, NoMemory, TooLong, PoolFull, Budget, Floor, Empty}
 use Rattle.bsss_cli.specs.Texts.{not_built}
 use Rattle.bsss_cli.specs.Outcome.{is_built, Solves, OfBytes, SolveAnswers, Answers, Finished, Writes, HasReadAll, status_of, reported}
 
 -- a status that isn't for a fault of the outside or want of memory
 abbrev pub IsPlain : Status → Type 0
 IsPlain Solved = ⊤
+IsPlain Accepted = ⊤
 IsPlain Made = ⊤
 IsPlain Usage = ⊤
 IsPlain NotBuilt = ⊤
 IsPlain (BadInstance number line) = ⊤
+IsPlain (Rejected fault) = ⊤
 IsPlain ReadFault = ⊥
 IsPlain WriteFault = ⊥
 IsPlain NoMemory = ⊥
@@ -32,10 +34,12 @@ IsPlain Empty = ⊤
 
 finished_writes : (command : Option Command) (told : Option (List ℕ)) (before after : SinkView) (status : Status) → IsPlain status → Finished command told before after status → Writes command told before after status
 finished_writes command told before after Solved plain h = h
+finished_writes command told before after Accepted plain h = h
 finished_writes command told before after Made plain h = h
 finished_writes command told before after Usage plain h = h
 finished_writes command told before after NotBuilt plain h = h
 finished_writes command told before after (BadInstance number line) plain h = h
+finished_writes command told before after (Rejected fault) plain h = h
 finished_writes command told before after ReadFault plain h = absurd plain
 finished_writes command told before after WriteFault plain h = absurd plain
 finished_writes command told before after NoMemory plain h = absurd plain
@@ -85,6 +89,8 @@ forgotten s bytes Floor text h = (bytes, h)
 forgotten s bytes Empty text h = (bytes, h)
 forgotten s bytes (BadInstance number line) text h = (h.0, (bytes, h.1))
 forgotten s bytes TooLong text h = (h.0, tt)
+forgotten s bytes Accepted text h = absurd h
+forgotten s bytes (Rejected fault) text h = absurd h
 forgotten s bytes Made text h = absurd h
 forgotten s bytes Usage text h = absurd h
 forgotten s bytes NotBuilt text h = absurd h
@@ -107,6 +113,8 @@ writes_forgotten s bytes before after ReadFault h = h
 writes_forgotten s bytes before after NoMemory h = h
 writes_forgotten s bytes before after WriteFault h = record { status = h.status; text = h.text; answers = solve_forgotten s bytes h.status h.text h.answers; took = h.took }
 writes_forgotten s bytes before after Solved h = finished_forgotten s bytes before after Solved h
+writes_forgotten s bytes before after Accepted h = finished_forgotten s bytes before after Accepted h
+writes_forgotten s bytes before after (Rejected fault) h = finished_forgotten s bytes before after (Rejected fault) h
 writes_forgotten s bytes before after Made h = finished_forgotten s bytes before after Made h
 writes_forgotten s bytes before after Usage h = finished_forgotten s bytes before after Usage h
 writes_forgotten s bytes before after NotBuilt h = finished_forgotten s bytes before after NotBuilt h

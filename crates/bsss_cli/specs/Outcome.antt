@@ -1,5 +1,5 @@
 -- What a run of the program answers and writes.
-use Rattle.std.specs.Prelude.{◌≡◌, ℕ, ◌<◌, ◌≤◌, Bool, false, cond, ◌&&◌, ◌==◌, List, length, Option, Some, None, IfSome, Result, Ok, Err, ⊤}
+use Rattle.std.specs.Prelude.{◌≡◌, ◌⊎◌, ℕ, ◌<◌, ◌≤◌, Bool, true, false, cond, ◌==◌, List, length, Option, Some, None, IfSome, Result, Ok, Err, ⊤}
 use Rattle.port_io.specs.Bytes.{Took, TookFront}
 use Rattle.port_io.specs.Output.{SinkView}
 use Rattle.siting_definitions.specs.declared.Word.{Word}
@@ -12,12 +12,14 @@ use Rattle.siting_definitions.specs.Answer.{Answer, IsValid, IsWorkedBy}
 use Rattle.siting_definitions.specs.Claims.{Claims}
 use Rattle.instance_text.specs.Reading.{reading}
 use Rattle.case_maker.specs.Made.{made}
+use Rattle.cert_checker.specs.declared.faults.CheckError.TheVariants as errors
+use Rattle.cert_checker.specs.Checking.{checking}
 use Rattle.bsss_cli.specs.declared.words.Settings.{Settings}
 use Rattle.bsss_cli.specs.declared.words.Command.{Command}
 use Rattle.bsss_cli.specs.declared.words.Command.TheVariants.{Solve, Check, Make, Trial}
 use Rattle.bsss_cli.specs.declared.status.Status.{Status}
-use Rattle.bsss_cli.specs.declared.status.Status.TheVariants.{Solved, Made, Usage, NotBuilt, BadInstance, ReadFault, WriteFault, NoMemory, TooLong, PoolFull, Budget, Floor, Empty}
-use Rattle.bsss_cli.specs.Texts.{instance_limit, bad_words, not_built, too_long, bad_instance}
+use Rattle.bsss_cli.specs.declared.status.Status.TheVariants.{Solved, Accepted, Made, Usage, NotBuilt, BadInstance, Rejected, ReadFault, WriteFault, NoMemory, TooLong, PoolFull, Budget, Floor, Empty}
+use Rattle.bsss_cli.specs.Texts.{instance_limit, bad_words, not_built, too_long, bad_instance, accepted, rejected}
 
 -- whether a solve is built: with one worker
 abbrev pub is_built : Settings → Bool
@@ -61,11 +63,25 @@ SolveAnswers s told (BadInstance number line) text =
 SolveAnswers s told TooLong text = (text ≡ too_long) × IfSome told (λ bytes. instance_limit < length bytes)
 SolveAnswers s told _ text = ⊥
 
+-- the bytes are the text of a valid answer, which then claims no more than holds
+pub record IsAccepted (bytes : List ℕ) : Type 0 where
+  pub answer : Answer
+  pub text : bytes ≡ answer_text answer
+  pub valid : IsValid answer
+  pub claims : Claims answer.head
+
+-- What a check may answer, and the text that it writes then: each status exactly where its condition on the bytes holds.
+abbrev pub CheckAnswers : Option (List ℕ) → Status → List ℕ → Type 0
+CheckAnswers told Accepted text = (text ≡ accepted) × IfSome told IsAccepted
+CheckAnswers told (Rejected fault) text = (text ≡ rejected fault) × IfSome told (λ bytes. checking bytes ≡ Err (errors.Fault fault))
+CheckAnswers told TooLong text = (text ≡ too_long) × IfSome told (λ bytes. checking bytes ≡ Err errors.TooLong)
+CheckAnswers told _ text = ⊥
+
 -- what a run with this command may answer, and the text that it writes then
 abbrev pub Answers : Option Command → Option (List ℕ) → Status → List ℕ → Type 0
 Answers None told status text = (status ≡ Usage) × (text ≡ bad_words)
 Answers (Some (Solve s)) told status text = cond (is_built s) (SolveAnswers s told status text) ((status ≡ NotBuilt) × (text ≡ not_built))
-Answers (Some Check) told status text = (status ≡ NotBuilt) × (text ≡ not_built)
+Answers (Some Check) told status text = CheckAnswers told status text
 Answers (Some (Make seed points)) told status text = (status ≡ Made) × (text ≡ instance_text (made seed points))
 Answers (Some (Trial seed points s)) told status text = (status ≡ NotBuilt) × (text ≡ not_built)
 
@@ -73,7 +89,7 @@ Answers (Some (Trial seed points s)) told status text = (status ≡ NotBuilt) ×
 abbrev pub reads : Option Command → Bool
 reads None = false
 reads (Some (Solve s)) = is_built s
-reads (Some Check) = false
+reads (Some Check) = true
 reads (Some (Make seed points)) = false
 reads (Some (Trial seed points s)) = false
 
@@ -101,10 +117,12 @@ Writes command told before after status = Finished command told before after sta
 -- a status that comes only after the source was read to its end
 abbrev pub HasReadAll : Status → Type 0
 HasReadAll Solved = ⊤
+HasReadAll Accepted = ⊤
 HasReadAll Made = ⊥
 HasReadAll Usage = ⊥
 HasReadAll NotBuilt = ⊥
 HasReadAll (BadInstance number line) = ⊤
+HasReadAll (Rejected fault) = ⊥
 HasReadAll ReadFault = ⊥
 HasReadAll WriteFault = ⊥
 HasReadAll NoMemory = ⊥
@@ -130,10 +148,12 @@ reported (Err error) status = WriteFault
 -- the code with which the program ends
 abbrev pub code_of : Status → ℕ
 code_of Solved = 0
+code_of Accepted = 0
 code_of Made = 0
 code_of Usage = 2
 code_of (BadInstance number line) = 3
 code_of NotBuilt = 4
+code_of (Rejected fault) = 5
 code_of ReadFault = 6
 code_of WriteFault = 7
 code_of NoMemory = 8
@@ -142,3 +162,29 @@ code_of PoolFull = 10
 code_of Budget = 11
 code_of Floor = 12
 code_of Empty = 13
+
+-- the status may come in place of any other: a fault of the outside, or want of memory
+abbrev pub IsOutside : Status → Type 0
+IsOutside ReadFault = ⊤
+IsOutside WriteFault = ⊤
+IsOutside NoMemory = ⊤
+IsOutside status = ⊥
+
+abbrev pub IsAnswer : Status → Type 0
+IsAnswer Solved = ⊤
+IsAnswer PoolFull = ⊤
+IsAnswer Budget = ⊤
+IsAnswer Floor = ⊤
+IsAnswer Empty = ⊤
+IsAnswer status = IsOutside status
+
+-- What comes where the outside has no fault and there is memory: an answer to each instance text within the limit, acceptance of each valid
+-- answer, and each made instance.
+abbrev pub Completes : Option Command → Option (List ℕ) → Status → Type 0
+Completes None told status = ⊤
+Completes (Some (Solve s)) told status =
+    is_built s ≡ true → IfSome told (λ bytes. (i : Instance) → length bytes ≤ instance_limit → reading bytes ≡ Ok i → IsAnswer status)
+Completes (Some Check) told status =
+    IfSome told (λ bytes. (a : Answer) → IsValid a → bytes ≡ answer_text a → (status ≡ Accepted) ⊎ IsOutside status)
+Completes (Some (Make seed points)) told status = (status ≡ Made) ⊎ IsOutside status
+Completes (Some (Trial seed points s)) told status = ⊤

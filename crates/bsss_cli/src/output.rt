@@ -1,12 +1,15 @@
 //! What the program writes to its sink: short texts, an instance, an answer.
 
-ghost use Rattle.std.specs.Prelude.{◌++◌, codes, map};
+ghost use Rattle.std.specs.Prelude.{◌≡◌, ◌++◌, codes, map};
 ghost use Rattle.port_io.specs.Output.{Wrote, sink_view};
+ghost use Rattle.port_io.specs.Output as outputs;
 ghost use Rattle.siting_definitions.specs.InstanceText.{instance_text};
 ghost use Rattle.siting_definitions.specs.AnswerText.{answer_text};
 ghost use Rattle.certificate.specs.Written.{mark_of};
-ghost use Rattle.bsss_cli.specs.Texts.{bad_instance};
+ghost use Rattle.bsss_cli.specs.Texts as texts;
+ghost use Rattle.bsss_cli.specs.Texts.{bad_instance, rejected};
 
+use cert_checker::{CheckFault, Differ};
 use certificate::{Head, write_answer};
 use discard_log::NodeList;
 use instance_text::{InstanceFault, write_instance};
@@ -33,26 +36,83 @@ pub(crate) fn put_bad_instance<K: Sink>(
     let mut number = itoa::Buffer::new();
     let mut line = itoa::Buffer::new();
     put_fault(
+        b"bad instance ",
         number.format(fault.number).as_bytes(),
         line.format(fault.line).as_bytes(),
         sink,
     )
 }
 
-/// Writes a fault by the digits of its number and of its line.
-fn put_fault<'x, K: Sink>(number: &'x [u8], line: &'x [u8], sink: &mut K) -> Result<(), WriteFault>
+/// Writes which fault a text has that isn't that of a valid answer.
+pub(crate) fn put_rejected<K: Sink>(fault: &CheckFault, sink: &mut K) -> Result<(), WriteFault>
     ensures { Wrote (sink_view K.room K.taken K.faults sink.old) (sink_view K.room K.taken K.faults sink.new)
-        (codes "bad instance " ++ (number.now ++ (codes " line " ++ (line.now ++ codes "\n")))) result }
+        (rejected fault.now) result }
+{
+    let mut number = itoa::Buffer::new();
+    let mut line = itoa::Buffer::new();
+    let number = number.format(fault.number).as_bytes();
+    let line = line.format(fault.line).as_bytes();
+    match fault.differ {
+        None => put_fault(b"rejected ", number, line, sink),
+        Some(differ) => put_differing(number, line, differ, sink),
+    }
+}
+
+/// Writes a fault by a word and the digits of its number and of its line.
+fn put_fault<'x, K: Sink>(
+    word: &'x [u8],
+    number: &'x [u8],
+    line: &'x [u8],
+    sink: &mut K,
+) -> Result<(), WriteFault>
+    ensures { Wrote (sink_view K.room K.taken K.faults sink.old) (sink_view K.room K.taken K.faults sink.new)
+        (word.now ++ (number.now ++ (codes " line " ++ (line.now ++ codes "\n")))) result }
 {
     let mut out = Out::new(sink);
     out.put_pieces(&[
-        Piece::Text(b"bad instance "),
+        Piece::Text(word),
         Piece::Text(number),
         Piece::Text(b" line "),
         Piece::Text(line),
         Piece::Text(b"\n"),
     ])?;
     out.finish()
+}
+
+/// Writes a fault of a value that another was wanted for.
+fn put_differing<'x, K: Sink>(
+    number: &'x [u8],
+    line: &'x [u8],
+    differ: Differ,
+    sink: &mut K,
+) -> Result<(), WriteFault>
+    ensures { Wrote (sink_view K.room K.taken K.faults sink.old) (sink_view K.room K.taken K.faults sink.new)
+        (codes "rejected " ++ (number.now ++ (codes " line " ++ (line.now
+        ++ (codes " has " ++ (texts.value_text differ.has ++ (codes " wants " ++ (texts.value_text differ.wants ++ codes "\n")))))))) result }
+{
+    let mut out = Out::new(sink);
+    out.put_pieces(&[
+        Piece::Text(b"rejected "),
+        Piece::Text(number),
+        Piece::Text(b" line "),
+        Piece::Text(line),
+        Piece::Text(b" has "),
+        value_piece(differ.has),
+        Piece::Text(b" wants "),
+        value_piece(differ.wants),
+        Piece::Text(b"\n"),
+    ])?;
+    out.finish()
+}
+
+/// A value, or the word `none`.
+fn value_piece(value: Option<i64>) -> Piece<'static>
+    ensures { outputs.text_of result ≡ texts.value_text value }
+{
+    match value {
+        None => Piece::Text(b"none"),
+        Some(number) => Piece::Number(number),
+    }
 }
 
 /// Writes the canonical text of an instance.

@@ -3,17 +3,20 @@
 ghost use Rattle.std.specs.Prelude.{◌≡◌, ◌≢◌, ℕ, ◌≤◌, List, [], Option, Some, Ok, Err, true, false, IfSome, length};
 ghost use Rattle.port_io.specs.Faults.{Rose};
 ghost use Rattle.port_io.specs.Output.{sink_view};
-ghost use Rattle.bsss_cli.specs.Words.{command_of, IsSettings, IsMaking};
+ghost use Rattle.bsss_cli.specs.Words.{command_of, IsCommand, IsSettings, IsMaking};
 ghost use Rattle.instance_text.specs.Reading.{reading};
+ghost use Rattle.cert_checker.specs.declared.faults.CheckError.TheVariants as errors;
+ghost use Rattle.cert_checker.specs.Checking.{checking};
 ghost use Rattle.bsss_cli.specs.Outcome as outcomes;
 ghost use Rattle.bsss_cli.specs.Texts.{not_built};
-ghost use Rattle.bsss_cli.specs.Outcome.{Answers, Writes, HasReadAll, reads};
+ghost use Rattle.bsss_cli.specs.Outcome.{Answers, Completes, Writes, HasReadAll, reads};
 
-use crate::output::{put_answer, put_bad_instance, put_instance, put_text};
+use crate::output::{put_answer, put_bad_instance, put_instance, put_rejected, put_text};
 use crate::solve::solve;
 use crate::status::{Status, report, status_of};
 use crate::words::{Argv, Command, NoMemory, Settings, parse_words};
 use case_maker::make_instance;
+use cert_checker::{CheckError, CheckFault, check};
 use instance_text::{InstanceError, InstanceFault, read_instance};
 use port_io::{ReadAll, Sink, Source, read_up_to};
 use site_model::Instance;
@@ -40,8 +43,30 @@ pub fn run_alone<S: Source, K: Sink>(
     ensures reader { result ≡ Status.ReadFault → reads (command_of words.now) ≡ true }
     ensures unread { reads (command_of words.now) ≡ false → S.left source.new ≡ S.left source.old }
     ensures read { HasReadAll result → IfSome (S.left source.old) (λ _. S.left source.new ≡ Some []) }
+
+    // What comes where the source and the sink have no fault and there is memory.
+    ensures complete { Completes (command_of words.now) (S.left source.old) result }
 {
-    match parse_words(words) {
+    run_command(alloc, parse_words(words), source, sink)
+}
+
+/// Runs a command, or refuses the words that are none.
+fn run_command<S: Source, K: Sink>(
+    alloc: Global,
+    command: Option<Command>,
+    source: &mut S,
+    sink: &mut K,
+) -> Status
+    requires { IfSome command IsCommand }
+    ensures written { Writes command (S.left source.old) (sink_view K.room K.taken K.faults sink.old)
+        (sink_view K.room K.taken K.faults sink.new) result }
+    ensures write_fault { result ≡ Status.WriteFault → Rose (K.faults sink.old) (K.faults sink.new) }
+    ensures read_fault { result ≡ Status.ReadFault → Rose (S.faults source.old) (S.faults source.new) }
+    ensures reader { result ≡ Status.ReadFault → reads command ≡ true }
+    ensures unread { reads command ≡ false → S.left source.new ≡ S.left source.old }
+    ensures read { HasReadAll result → IfSome (S.left source.old) (λ _. S.left source.new ≡ Some []) }
+{
+    match command {
         None => report(put_text(b"bad words\n", sink), Status::Usage),
         Some(Command::Solve(settings)) => {
             if is_built(settings) {
@@ -51,7 +76,7 @@ pub fn run_alone<S: Source, K: Sink>(
             }
         }
         Some(Command::Make { seed, points }) => run_make(alloc, seed, points, sink),
-        Some(Command::Check) => run_unbuilt(sink),
+        Some(Command::Check) => run_check(alloc, source, sink),
         Some(Command::Trial { .. }) => run_unbuilt(sink),
     }
 }
@@ -151,6 +176,35 @@ fn solve_instance<K: Sink>(
         }
         Err(NoMemory) => Status::NoMemory,
     }
+}
+
+/// Runs `check`.
+fn run_check<S: Source, K: Sink>(alloc: Global, source: &mut S, sink: &mut K) -> Status
+    ensures written { Writes (Some Command.Check) (S.left source.old) (sink_view K.room K.taken K.faults sink.old)
+        (sink_view K.room K.taken K.faults sink.new) result }
+    ensures write_fault { result ≡ Status.WriteFault → Rose (K.faults sink.old) (K.faults sink.new) }
+    ensures read_fault { result ≡ Status.ReadFault → Rose (S.faults source.old) (S.faults source.new) }
+    ensures read { HasReadAll result → IfSome (S.left source.old) (λ _. S.left source.new ≡ Some []) }
+{
+    match check(alloc, source) {
+        Ok(_) => report(put_text(b"accepted\n", sink), Status::Accepted),
+        Err(CheckError::Fault(fault)) => reject(fault, sink),
+        Err(CheckError::TooLong) => report(put_text(b"too long\n", sink), Status::TooLong),
+        Err(CheckError::ReadFault) => Status::ReadFault,
+        Err(CheckError::NoMemory) => Status::NoMemory,
+    }
+}
+
+/// Says which fault a text has that isn't that of a valid answer.
+fn reject<K: Sink>(fault: CheckFault, sink: &mut K) -> Status
+    ensures written { (told : Option (List ℕ)) → IfSome told (λ bytes. checking bytes ≡ Err (errors.Fault fault))
+        → Writes (Some Command.Check) told (sink_view K.room K.taken K.faults sink.old)
+        (sink_view K.room K.taken K.faults sink.new) result }
+    ensures write_fault { result ≡ Status.WriteFault → Rose (K.faults sink.old) (K.faults sink.new) }
+    ensures no_read_fault { result ≢ Status.ReadFault }
+    ensures unread { HasReadAll result → ⊥ }
+{
+    report(put_rejected(&fault, sink), Status::Rejected(fault))
 }
 
 /// Runs `make`.

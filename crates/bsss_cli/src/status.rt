@@ -3,6 +3,7 @@
 ghost use Rattle.std.specs.Prelude.{◌≡◌};
 ghost use Rattle.bsss_cli.specs.Outcome.{code_of, status_of, reported};
 
+use cert_checker::CheckFault;
 use port_io::WriteFault;
 use siting_definitions::Word;
 
@@ -11,6 +12,8 @@ use siting_definitions::Word;
 pub enum Status {
     /// The answer is solved: its upper cost is within the gap of its bound.
     Solved,
+    /// The text is that of a valid answer.
+    Accepted,
     /// The instance was made.
     Made,
     /// The words are no lawful command.
@@ -24,6 +27,8 @@ pub enum Status {
         /// The line of the fault, from 1.
         line: u64,
     },
+    /// The text isn't that of a valid answer, and this is its first fault.
+    Rejected(CheckFault),
     /// A read failed.
     ReadFault,
     /// A write failed.
@@ -48,10 +53,11 @@ impl Status {
         ensures { result ≡ code_of self.now }
     {
         match self {
-            Status::Solved | Status::Made => 0,
+            Status::Solved | Status::Accepted | Status::Made => 0,
             Status::Usage => 2,
             Status::BadInstance { .. } => 3,
             Status::NotBuilt => 4,
+            Status::Rejected(_) => 5,
             Status::ReadFault => 6,
             Status::WriteFault => 7,
             Status::NoMemory => 8,

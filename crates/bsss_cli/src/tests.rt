@@ -258,7 +258,8 @@ fn each_refusal_has_its_text(rt: HostRuntime) -> Result<(), Fail> {
         ("solve gap=", "", 2, "bad words\n"),
         ("", "", 2, "bad words\n"),
         ("solve budget=0 workers=2", "", 4, "not built\n"),
-        ("check", "", 4, "not built\n"),
+        ("check", "", 5, "rejected 1 line 1\n"),
+        ("check gap=1", "", 2, "bad words\n"),
         ("trial seed=7 points=4", "", 4, "not built\n"),
     ];
     for (line, input, code, text) in cases {
@@ -377,6 +378,43 @@ fn an_instance_at_every_limit(rt: HostRuntime) -> Result<(), Fail> {
         let (code, sink) = run(rt.alloc(), "solve budget=0", text.as_str())?;
         assert_eq!(rt; code, 3);
         assert_eq!(rt; sink.bytes(), wanted.as_bytes());
+    }
+    Ok(())
+}
+
+#[test]
+fn an_answer_is_checked(rt: HostRuntime) -> Result<(), Fail> {
+    let head =
+        "siting answer 1\nsiting 1\nkind sum\npoint 0 0 1\npermit 3 4 9 4 3 10\nend\ngap 0\nbudget 100000\npool 100000\n";
+    // What comes after the pool, the code, and what is written.
+    let cases = [
+        (
+            "site 196608 262144\ncost 327680 327680\nbound 327680\nanswer solved\nopen 0\nleases 1\nroot 196608 262144 19\nB 327680\nend\n",
+            0,
+            "accepted\n",
+        ),
+        (
+            "site 196608 262144\ncost 327680 327680\nbound 327680\nanswer solved\nopen 0\nleases 1\nroot 196608 262144 19\nB 327681\nend\n",
+            5,
+            "rejected 8 line 17 has 327681 wants 327680\n",
+        ),
+        (
+            "site none\ncost none\nbound 327680\nanswer solved\nopen 0\nleases 1\nroot 196608 262144 19\nB 327680\nend\n",
+            5,
+            "rejected 14 line 11 has none wants 327680\n",
+        ),
+        (
+            "site 196608 262144\ncost 327680 327680\nbound 327680\nanswer solved\nopen 0\nleases 1\nroot 196608 262144 19\nend\n",
+            5,
+            "rejected 5 line 17\n",
+        ),
+    ];
+    for (tail, code, text) in cases {
+        let mut answer = String::from_str(rt.alloc(), head)?;
+        answer.push_str(tail)?;
+        let (ended, sink) = run(rt.alloc(), "check", answer.as_str())?;
+        assert_eq!(rt; ended, code, "{text}");
+        assert_eq!(rt; sink.bytes(), text.as_bytes());
     }
     Ok(())
 }

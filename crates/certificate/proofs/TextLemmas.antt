@@ -89,7 +89,7 @@ head_words h rest words =
     (and_from _ _ (number_words (codes "leases") (pos h.leases) refl)
     (and_from _ _ (root_words (root_of h.instance)) words)))))))))
 
-answer_words : (a : Answer) → AreWords (answer_lines a)
+pub answer_words : (a : Answer) → AreWords (answer_lines a)
 answer_words a = record {
   test = and_from _ _ (three_words (codes "siting") (codes "answer") (version_field a.head.instance) refl refl (version_words (has_cutoff a.head.instance)))
       (list_all-append are_words (instance_lines a.head.instance) (head_lines a.head ++ (map mark_line a.marks ++ (codes "end" ∷ []) ∷ []))

@@ -1,13 +1,26 @@
-//! The text of an answer.
+//! The text of an answer: writing it to a sink, and reading it from a source in any pieces.
 #![tactic(auto)]
 
+mod forms;
 mod head;
+mod head_lines;
+mod held;
 mod laws;
+mod part;
+mod part_lines;
+mod parts;
+mod place;
+mod reader;
+#[cfg(test)]
+mod reader_tests;
 mod tally;
 mod write;
 
 pub use head::Head;
-pub use laws::no_text_is_of_two_answers;
+pub use laws::{
+    inputs_are_their_lines, no_text_is_of_two_answers, texts_read_back, valid_texts_are_short,
+};
+pub use reader::{AnswerError, AnswerReader, Item};
 pub use siting_definitions::Word;
 pub use tally::{Tally, tallies_join};
 pub use write::write_answer;
@@ -56,6 +69,13 @@ mod tests {
             open_count: 0,
             leases: 0,
         }
+    }
+
+    fn may_be_shared<T: Send + Sync>(_value: &T) {}
+
+    #[test]
+    fn threads_may_share_a_head(rt: HostRuntime) {
+        may_be_shared(&head(&rt, rt.alloc()));
     }
 
     #[test]

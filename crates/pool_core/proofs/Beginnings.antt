@@ -1,20 +1,16 @@
 -- A pool in which the root waits: its state, and what a pool keeps.
-use Rattle.std.proofs.Common.{◌≡◌, ℕ, zero, suc, ◌+◌, ◌-◌, ◌*◌, ◌<◌, ◌≤◌, Bool, true, false, ℤ, List, [], ◌∷◌, ◌++◌, length, count_by, vec_len, vec_capacity, take, Option, None, Some, refl, sym, ap, ◌∙◌, subst, arith}
+use Rattle.std.proofs.Common.{◌≡◌, ℕ, ◌+◌, ◌*◌, List, [], ◌∷◌, length, vec_capacity, take, Option, None, refl, sym, ap, ◌∙◌, subst, arith}
 use Rattle.std.specs.List.{All}
 use Rattle.std.specs.List.Sorted.{IsPermutation}
 use Rattle.std.proofs.lemmas.List.Elements.{All-cons}
 use Rattle.std.proofs.lemmas.List.Sorted.{All-permutation, length_permutation}
-use Rattle.siting_definitions.specs.Bounds.{coarse_of}
-use Rattle.siting_definitions.specs.Marks.{is_split}
-use Rattle.siting_definitions.specs.Square.{Square}
-use Rattle.bound_heap.specs.HeapView.{HeapView}
 use Rattle.bound_heap.specs.declared.entry.Entry.{Entry}
 use Rattle.discard_log.specs.LogView.{LogView}
 use Rattle.discard_log.specs.declared.node.Node.{Node}
 use Rattle.pool_core.specs.declared.stop.Stop.{Stop}
 use Rattle.pool_core.specs.declared.pool.Pool.TheInside.{Inside}
-use Rattle.pool_core.specs.Job.{Job, IsJob, job_root}
-use Rattle.pool_core.specs.State.{State, Beginning, first_state, open_count, raised_count, root_entry, split_count}
+use Rattle.pool_core.specs.Job.{Job, IsJob}
+use Rattle.pool_core.specs.State.{State, Beginning, first_state, raised_count, root_entry, split_count}
 use Rattle.pool_core.proofs.Leasing.{beginning_is}
 use Rattle.pool_core.specs.Inside.{Fits, state_of}
 

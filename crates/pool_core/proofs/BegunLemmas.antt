@@ -26,7 +26,7 @@ use Rattle.discard_log.specs.Nodes.{tree_square}
 use Rattle.bound_heap.specs.declared.entry.Entry.{Entry}
 use Rattle.pool_core.specs.Job.{Job, IsLawful, IsOffer, job_root, start_cost, cost_in}
 use Rattle.pool_core.specs.State.{State, first_state, root_entry, squares_of, split_count, raised_count}
-use Rattle.pool_core.specs.Sound.{AreTree, CountsFit, StopFits, IsConsistent, EntryFits, MarkFits, NodeFits, IsPoolOf}
+use Rattle.pool_core.specs.Sound.{AreTree, SearchCountsFit, StopFits, IsConsistent, EntryFits, LoggedFits, NodeFits, IsPoolOf}
 use Rattle.pool_core.specs.Begun.{IsResumable, IsBegunFrom, is_left_open, left_count, closed_nodes, left_of}
 use Rattle.pool_core.proofs.VerdictLemmas.{reaches-true}
 use Rattle.pool_core.proofs.TreeKept.{total-map, total_entries, total_nodes, total-squares}
@@ -142,7 +142,7 @@ leaf_says i gap u s =
 abbrev pub IsMarked : Instance → ℤ → Option ℤ → Node → Type 0
 IsMarked i gap u n = marks.MarkFits i gap u (tree_square n) n.mark
 
-closed-fits : (i : Instance) (gap : ℤ) (u : Option ℤ) (s : Square) (m : Mark) → is_left m ≡ false → marks.MarkFits i gap u (record { square = s; is_split = is_split m }) m → MarkFits i gap u s m
+closed-fits : (i : Instance) (gap : ℤ) (u : Option ℤ) (s : Square) (m : Mark) → is_left m ≡ false → marks.MarkFits i gap u (record { square = s; is_split = is_split m }) m → LoggedFits i gap u s m
 closed-fits i gap u s (Split v) closed h = h
 closed-fits i gap u s Shut closed h = subst (LeafSays i gap u s) (sym h) (leaf_says i gap u s)
 closed-fits i gap u s (Bounded c) closed h = subst (LeafSays i gap u s) (sym h) (leaf_says i gap u s)
@@ -203,7 +203,7 @@ waiting_count : (ns : List Node) (es : List Entry) → IsPermutation (filter is_
 waiting_count ns es h =
     sym (length-map es left_of) ∙ length-permutation (filter is_left_open ns) (map left_of es) h ∙ length-filter is_left_open ns
 
-begun_counts : (j : Job) (ns : List Node) (leases : ℕ) (s : State) → IsResumable j ns leases → IsBegunFrom j ns leases s → CountsFit s
+begun_counts : (j : Job) (ns : List Node) (leases : ℕ) (s : State) → IsResumable j ns leases → IsBegunFrom j ns leases s → SearchCountsFit s
 begun_counts j ns leases s r b =
     let closed = closed_counts ns in
     let waiting : length s.waiting ≡ left_count ns = waiting_count ns s.waiting b.waiting in

@@ -4,10 +4,9 @@ use Rattle.std.specs.Prelude.{⊤}
 use Rattle.std.specs.List.Sorted.{IsPermutation}
 use Rattle.std.proofs.lemmas.Bool.{true≢false}
 use Rattle.std.proofs.lemmas.Bool.Decides.{nat_tests}
-use Rattle.siting_definitions.specs.Square.{Square}
 use Rattle.siting_definitions.specs.Excluded.{is_excluded}
 use Rattle.siting_definitions.specs.Marks.{is_split, reaches}
-use Rattle.dyadic_square.proofs.Bag.{total, once, total-append, total-length, total-permutation, count_by-total}
+use Rattle.dyadic_square.proofs.Bag.{once, total-append, total-length, total-permutation, count_by-total}
 use Rattle.discard_log.specs.declared.node.Node.{Node}
 use Rattle.bound_heap.specs.declared.entry.Entry.{Entry}
 use Rattle.pool_core.specs.declared.stop.Stop.{Stop}
@@ -18,7 +17,7 @@ use Rattle.pool_core.specs.Job.{Job}
 use Rattle.pool_core.specs.State.{State, Beginning, open_count, split_count, unsplit_count, raised_count}
 use Rattle.pool_core.specs.Verdict.{finding_of}
 use Rattle.pool_core.specs.Machine.{Leases, Halts, Returns, is_kept, entries_from, nodes_from, first_stop}
-use Rattle.pool_core.specs.Sound.{CountsFit, StopFits}
+use Rattle.pool_core.specs.Sound.{SearchCountsFit, StopFits}
 
 -- ---- counts of lists
 pub length-permutation : {X : Type 0} (xs ys : List X) → IsPermutation xs ys → length ys ≡ length xs
@@ -112,7 +111,7 @@ record IsPaid (e : Entry) (entries : List Entry) (added : List Node) (parts : �
 
 counts_moved : (e : Entry) (entries : List Entry) (added : List Node) (parts : ℕ) (before after : State)
     → Moves e entries added parts before after → IsPaid e entries added parts → open_count after ≤ before.job.pool → (after.stop ≡ None → after.kept ≡ 0)
-    → CountsFit before → CountsFit after
+    → SearchCountsFit before → SearchCountsFit after
 counts_moved e entries added parts before after m paid most going fits = record {
   open_most = omega (arith, most);
   leased = omega arith;
@@ -150,13 +149,13 @@ paid_part e seen b = record {
   parts_wait = omega arith;
 }
 
-counts_node : (e : Entry) (n : Node) (before after : State) → Moves e [] (n ∷ []) 0 before after → after.stop ≡ before.stop → CountsFit before → CountsFit after
+counts_node : (e : Entry) (n : Node) (before after : State) → Moves e [] (n ∷ []) 0 before after → after.stop ≡ before.stop → SearchCountsFit before → SearchCountsFit after
 counts_node e n before after m stop fits =
     counts_moved e [] (n ∷ []) 0 before after m (paid_node e n) (omega arith) (λ none. omega (arith, m.kept, fits.going (sym stop ∙ none))) fits
 
 counts_part : (e : Entry) (seen : Option ℤ) (b : ℤ) (before after : State) (k : Bool) → is_kept before (Part b) ≡ k
     → Moves e (cond k (e ∷ []) (entries_from e.square (Part b))) (cond k [] (nodes_from e.square seen (Part b))) (cond k 1 0) before after
-    → after.stop ≡ cond k (first_stop before.stop (PoolFull (open_count before))) before.stop → CountsFit before → CountsFit after
+    → after.stop ≡ cond k (first_stop before.stop (PoolFull (open_count before))) before.stop → SearchCountsFit before → SearchCountsFit after
 counts_part e seen b before after true is m stop fits =
     counts_moved e (e ∷ []) [] 1 before after m (paid_kept e) (omega (arith, m.waiting, m.leased, fits.open_most))
     (λ none. absurd (first_stop-some before.stop (PoolFull (open_count before)) (sym stop ∙ none))) fits
@@ -174,7 +173,7 @@ IsFreshRaise e (Part b) = ⊤
 IsFreshRaise e (Floor b) = ⊤
 
 -- a raise comes only of an entry that wasn't raised
-pub counts_return : (e : Entry) (seen : Option ℤ) (f : Finding) (before after : State) → IsFreshRaise e f → Returns e seen f before after → CountsFit before → CountsFit after
+pub counts_return : (e : Entry) (seen : Option ℤ) (f : Finding) (before after : State) → IsFreshRaise e f → Returns e seen f before after → SearchCountsFit before → SearchCountsFit after
 counts_return e seen Excluded before after fresh h fits =
     counts_node e _ before after (moves e seen Excluded before after h) h.stop fits
 counts_return e seen (Bounded b) before after fresh h fits =
@@ -218,7 +217,7 @@ leaves_waiting e before after h = record {
   split = ap split_count h.nodes;
 }
 
-pub counts_lease : (e : Entry) (before after : State) → Leases e before after → CountsFit before → CountsFit after
+pub counts_lease : (e : Entry) (before after : State) → Leases e before after → SearchCountsFit before → SearchCountsFit after
 counts_lease e before after h fits =
     let m = leaves_waiting e before after h in
     let none = fits.going h.going in
@@ -233,7 +232,7 @@ counts_lease e before after h fits =
     }
 
 -- ---- a halt
-pub counts_halt : (before after : State) → Halts before after → CountsFit before → CountsFit after
+pub counts_halt : (before after : State) → Halts before after → SearchCountsFit before → SearchCountsFit after
 counts_halt before after h fits =
     rw h.halted
     (record {
@@ -300,7 +299,7 @@ stop_part e seen b before after false is m stop job begun more most fits =
     rw stop (stop_made before after before.stop (made_says (is_some before.stop) before.job.pool (open_count before + 3) is).0)
 
 pub stop_return : (e : Entry) (seen : Option ℤ) (f : Finding) (before after : State) → Returns e seen f before after
-    → ((later : List Node) × (before.nodes ≡ before.beginning.nodes ++ later)) → CountsFit before → StopFits before before.stop → StopFits after after.stop
+    → ((later : List Node) × (before.nodes ≡ before.beginning.nodes ++ later)) → SearchCountsFit before → StopFits before before.stop → StopFits after after.stop
 stop_return e seen Excluded before after h begun counts fits =
     stop_node e _ before after refl (moves e seen Excluded before after h) h.job h.beginning h.stop fits
 stop_return e seen (Bounded b) before after h begun counts fits =

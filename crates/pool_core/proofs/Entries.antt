@@ -3,7 +3,6 @@ use Rattle.std.proofs.Common.{◌≡◌, ℕ, eqb, Bool, true, false, ◌&&◌, 
 use Rattle.std.specs.Ordering.{int_eq}
 use mathlib.Core.Bool.{beq}
 use Rattle.std.proofs.lemmas.Bool.Decides.{Decides-and, Decides-eqb, Decides-int_eq, Decides-like}
-use Rattle.siting_definitions.specs.Square.{Square}
 use Rattle.bound_heap.specs.declared.entry.Entry.{Entry}
 
 abbrev pub same_entry : Entry → Entry → Bool

@@ -1,18 +1,17 @@
 -- A waiting entry becomes leased: the step, and what a pool keeps.
-use Rattle.std.proofs.Common.{◌≡◌, ℕ, ◌+◌, ◌-◌, ◌*◌, ◌<◌, ◌≤◌, ◌≤ℤ◌, List, [], ◌∷◌, ◌++◌, length, vec_len, vec_capacity, take, Option, None, refl, sym, ap, ◌∙◌, subst, arith}
+use Rattle.std.proofs.Common.{◌≡◌, ℕ, ◌+◌, ◌<◌, ◌≤◌, ◌≤ℤ◌, List, [], ◌∷◌, ◌++◌, vec_capacity, take, None, refl, sym, ap, ◌∙◌, subst, arith}
 use Rattle.std.specs.List.{All, Contains}
 use Rattle.std.specs.List.Sorted.{IsPermutation}
 use Rattle.std.proofs.lemmas.List.Sorted.{Contains-permutation, IsPermutation-sym, IsPermutation-to_front}
 use Rattle.bound_heap.specs.declared.entry.Entry.{Entry}
 use Rattle.discard_log.specs.declared.node.Node.{Node}
 use Rattle.discard_log.specs.LogView.{LogView}
-use Rattle.pool_core.specs.declared.stop.Stop.{Stop}
 use Rattle.pool_core.specs.declared.pool.Pool.TheInside.{Inside}
 use Rattle.pool_core.specs.Job.{Job, IsJob}
-use Rattle.pool_core.specs.State.{State, Beginning, split_count}
+use Rattle.pool_core.specs.State.{State, Beginning}
 use Rattle.pool_core.specs.Machine.{Leases}
 use Rattle.pool_core.specs.Inside.{Fits, state_of}
-use Rattle.pool_core.proofs.CountsKept.{Leaves, counts_lease, leaves_waiting, size_lease}
+use Rattle.pool_core.proofs.CountsKept.{counts_lease, leaves_waiting, size_lease}
 
 -- what the code does with the fields of a pool
 pub record IsLeasing (e : Entry) (a b : Inside) : Type 0 where

@@ -24,7 +24,7 @@ use Rattle.pool_core.specs.Job.{Job, IsLawful, start_cost, cost_in}
 use Rattle.pool_core.specs.State.{State}
 use Rattle.pool_core.specs.Verdict.{is_part}
 use Rattle.pool_core.specs.Machine.{Leases, Returns, IsSeen, nodes_from, entries_from, is_kept}
-use Rattle.pool_core.specs.Sound.{EntryFits, MarkFits, NodeFits}
+use Rattle.pool_core.specs.Sound.{EntryFits, LoggedFits, NodeFits}
 use Rattle.pool_core.proofs.VerdictLemmas.{FindingFits, reaches-true, reaches-false}
 
 -- ---- the least upper cost falls from u to v
@@ -35,7 +35,7 @@ pub at_most-more : (u : Option ℤ) (a b : ℤ) → a ≤ℤ b → IsAtMost u a 
 at_most-more None a b le h = h
 at_most-more (Some n) a b le h = le_trans_ℤ n a b h le
 
-pub mark-falls : (i : Instance) (gap : ℤ) (u v : Option ℤ) (s : Square) (m : Mark) → Falls u v → MarkFits i gap u s m → MarkFits i gap v s m
+pub mark-falls : (i : Instance) (gap : ℤ) (u v : Option ℤ) (s : Square) (m : Mark) → Falls u v → LoggedFits i gap u s m → LoggedFits i gap v s m
 mark-falls i gap u v s (Split None) falls h = record { level = h.level; open_square = h.open_square; seen = h.seen }
 mark-falls i gap u v s (Split (Some n)) falls h = record {
   level = h.level;
@@ -89,7 +89,7 @@ seen-still j u v None falls h = h
 seen-still j u v (Some n) falls h = (falls n h.0, h.1)
 
 -- ---- what a finding adds
-one_node : (j : Job) (u : Option ℤ) (s : Square) (m : Mark) → MarkFits j.instance j.gap u s m → All (NodeFits j.instance j.gap u) (record { square = s; mark = m } ∷ [])
+one_node : (j : Job) (u : Option ℤ) (s : Square) (m : Mark) → LoggedFits j.instance j.gap u s m → All (NodeFits j.instance j.gap u) (record { square = s; mark = m } ∷ [])
 one_node j u s m h =
     All-cons (NodeFits j.instance j.gap u) (record { square = s; mark = m }) [] h (All-nil (NodeFits j.instance j.gap u))
 

@@ -1,5 +1,5 @@
 -- A pool that begins from the nodes of a tree: its state, and what a pool keeps.
-use Rattle.std.proofs.Common.{◌≡◌, ℕ, zero, suc, ◌+◌, ◌-◌, ◌*◌, ◌<◌, ◌≤◌, Bool, true, false, cond, not, List, [], ◌∷◌, ◌++◌, map, filter, length, count_by, vec_len, vec_capacity, take, Option, None, refl, sym, ap, ◌∙◌, subst, arith}
+use Rattle.std.proofs.Common.{◌≡◌, ℕ, suc, ◌+◌, ◌-◌, ◌*◌, true, not, List, [], ◌∷◌, map, filter, length, count_by, vec_capacity, take, None, refl, sym, ap, ◌∙◌, subst, arith}
 use Rattle.std.specs.List.{All}
 use Rattle.std.specs.List.Sorted.{IsPermutation}
 use Rattle.std.proofs.Math.Seq.{take-length}
@@ -9,7 +9,7 @@ use Rattle.std.proofs.lemmas.List.Sorted.{length_permutation}
 use Rattle.std.proofs.lemmas.List.Sums.{length-filter}
 use Rattle.siting_definitions.specs.declared.Mark.{Mark}
 use Rattle.siting_definitions.specs.declared.Mark.TheVariants.{Split, Shut, Bounded, Floor, Left}
-use Rattle.siting_definitions.specs.Marks.{is_left, is_split}
+use Rattle.siting_definitions.specs.Marks.{is_split}
 use Rattle.siting_definitions.specs.Square.{Square}
 use Rattle.siting_definitions.specs.Tree.{Tree, TreeSquare, preorder}
 use Rattle.dyadic_square.proofs.Bag.{once}
@@ -17,10 +17,9 @@ use Rattle.dyadic_square.proofs.Trees.{tree-size}
 use Rattle.bound_heap.specs.declared.entry.Entry.{Entry}
 use Rattle.discard_log.specs.declared.node.Node.{Node}
 use Rattle.discard_log.specs.Nodes.{tree_square}
-use Rattle.pool_core.specs.declared.stop.Stop.{Stop}
 use Rattle.pool_core.specs.declared.pool.Pool.TheInside.{Inside}
 use Rattle.pool_core.specs.Job.{Job, IsJob, job_root}
-use Rattle.pool_core.specs.State.{State, open_count, raised_count, split_count}
+use Rattle.pool_core.specs.State.{raised_count, split_count}
 use Rattle.pool_core.specs.Begun.{IsBegunFrom, IsResumable, closed_nodes, is_left_open, left_count, left_of}
 use Rattle.pool_core.specs.Inside.{Fits, state_of}
 use Rattle.pool_core.proofs.CountsKept.{count_by-cons}

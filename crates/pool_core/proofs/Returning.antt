@@ -1,8 +1,6 @@
 -- A leased entry comes back: the step, and what a pool keeps.
-use Rattle.std.proofs.Common.{◌≡◌, ℕ, zero, suc, ◌+◌, ◌-◌, ◌*◌, ◌<◌, ◌≤◌, nat_lt, ◌==◌, Bool, true, false, cond, not, ◌&&◌, ◌||◌, is_some, ℤ, ◌+ℤ◌, List, [], ◌∷◌, ◌++◌, length, length-append, vec_len, vec_capacity, take, Option, None, Some, refl, sym, ap, ◌∙◌, subst, arith}
+use Rattle.std.proofs.Common.{◌≡◌, ℕ, zero, suc, ◌+◌, ◌<◌, ◌≤◌, nat_lt, ◌==◌, Bool, true, false, cond, ◌&&◌, ◌||◌, is_some, ℤ, ◌+ℤ◌, [], ◌∷◌, ◌++◌, length, vec_capacity, take, Option, Some, refl, sym, ap, ◌∙◌, subst, arith}
 use Rattle.std.specs.List.Sorted.{IsPermutation}
-use Rattle.std.proofs.lemmas.Bool.{true≢false}
-use Rattle.std.proofs.lemmas.Bool.Decides.{nat_tests}
 use Rattle.std.proofs.lemmas.List.{take-append-le}
 use Rattle.std.proofs.lemmas.List.Sums.{count_by-le-length}
 use Rattle.siting_definitions.specs.Excluded.{is_excluded}
@@ -19,7 +17,7 @@ use Rattle.pool_core.specs.State.{State, open_count, split_count}
 use Rattle.pool_core.specs.Verdict.{finding_of}
 use Rattle.pool_core.specs.Machine.{Returns, entries_from, first_stop, is_kept, nodes_from}
 use Rattle.pool_core.specs.Inside.{Fits, state_of}
-use Rattle.pool_core.proofs.CountsKept.{IsFreshRaise, Moves, counts_return, fresh_finding, length-permutation, moves, size_return}
+use Rattle.pool_core.proofs.CountsKept.{IsFreshRaise, Moves, counts_return, fresh_finding, moves, size_return}
 use Rattle.pool_core.proofs.Leasing.{beginning_is}
 
 -- What the code does with the fields of a pool where e comes back with the finding f; k says whether a part isn't made.

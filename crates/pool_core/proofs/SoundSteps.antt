@@ -10,7 +10,7 @@ use Rattle.siting_definitions.proofs.Integers.{le_trans_ℤ}
 use Rattle.discard_log.specs.declared.node.Node.{Node}
 use Rattle.bound_heap.specs.declared.entry.Entry.{Entry}
 use Rattle.pool_core.specs.Job.{Job, IsLawful, IsOffer, start_cost}
-use Rattle.pool_core.specs.State.{State, World, Beginning}
+use Rattle.pool_core.specs.State.{State, Search, Beginning}
 use Rattle.pool_core.specs.Verdict.{finding_of}
 use Rattle.pool_core.specs.Machine.{Leases, Halts, Returns, nodes_from, is_kept, Event, Lease, Halt, Offer, Return, Step, Run}
 use Rattle.pool_core.specs.Sound.{AreTree, IsConsistent, EntryFits, NodeFits, IsSound}
@@ -70,7 +70,7 @@ pub record Costs (j : Job) (u : Option ℤ) (s : State) : Type 0 where
   pub start : MatchOption (start_cost j) ⊤ (IsAtMost u)
   pub least_is : MatchOption u ⊤ (λ c. (z : Pt) × IsOffer j.instance z c)
 
-pub sound-parts : (w : World) (j : Job) (u : Option ℤ) → w.pool.job ≡ j → w.least ≡ u → IsConsistent w.pool → Costs j u w.pool → IsSound w
+pub sound-parts : (w : Search) (j : Job) (u : Option ℤ) → w.pool.job ≡ j → w.least ≡ u → IsConsistent w.pool → Costs j u w.pool → IsSound w
 sound-parts w j u job least consistent costs =
     let c = subst₂ (λ (k : Job) (v : Option ℤ). Costs k v w.pool) (sym job) (sym least) costs in
     record {
@@ -84,7 +84,7 @@ sound-parts w j u job least consistent costs =
     }
 
 -- ---- the events
-pub sound_lease : (e : Entry) (before after : World) → Step before (Lease e) after → IsSound before → IsSound after
+pub sound_lease : (e : Entry) (before after : Search) → Step before (Lease e) after → IsSound before → IsSound after
 sound_lease e before after h sound =
     let i = before.pool.job.instance in
     sound-parts after before.pool.job before.least h.0.job h.1 (consistent_lease e before.pool after.pool h.0 sound.consistent)
@@ -97,7 +97,7 @@ sound_lease e before after h sound =
       least_is = sound.least_is;
     })
 
-pub sound_halt : (before after : World) → Step before Halt after → IsSound before → IsSound after
+pub sound_halt : (before after : Search) → Step before Halt after → IsSound before → IsSound after
 sound_halt before after h sound =
     let i = before.pool.job.instance in
     let waiting = ap (λ (s : State). s.waiting) h.0.halted in
@@ -113,7 +113,7 @@ sound_halt before after h sound =
       least_is = sound.least_is;
     })
 
-pub sound_return : (e : Entry) (seen : Option ℤ) (before after : World) → Step before (Return e seen) after → IsSound before → IsSound after
+pub sound_return : (e : Entry) (seen : Option ℤ) (before after : Search) → Step before (Return e seen) after → IsSound before → IsSound after
 sound_return e seen before after h sound =
     let j = before.pool.job in
     let i = j.instance in
@@ -153,7 +153,7 @@ falls_to None v le z h = absurd h
 falls_to (Some n) v le z h = le_trans_ℤ v n z le h
 
 -- the upper cost of a site that is offered, where it is no more than the least so far
-pub less_least : (w : World) (u : ℤ) (z : Pt) → IsSound w → IsOffer w.pool.job.instance z u → IsNoneOrAtLeast w.least u → IsSound (record w { least = Some u })
+pub less_least : (w : Search) (u : ℤ) (z : Pt) → IsSound w → IsOffer w.pool.job.instance z u → IsNoneOrAtLeast w.least u → IsSound (record w { least = Some u })
 less_least w u z sound offer le = sound-falls w.pool w.least (Some u) (falls_to w.least u le) (z, offer) sound
 
 lesser_falls : (u : Option ℤ) (v : ℤ) → Falls u (lesser u (Some v))
@@ -165,20 +165,20 @@ lesser_offered i None v z old new = (z, new)
 lesser_offered i (Some n) v z old new =
     cond_both (int_lt v n) v n (λ c. (y : Pt) × IsOffer i y c) (λ _. (z, new)) (λ _. old)
 
-pub sound_offer : (z : Pt) (before after : World) → Step before (Offer z) after → IsSound before → IsSound after
+pub sound_offer : (z : Pt) (before after : Search) → Step before (Offer z) after → IsSound before → IsSound after
 sound_offer z before after h sound =
     let u = lesser before.least (Some h.0) in
     subst₂ (λ (s : State) (v : Option ℤ). IsSound (record { pool = s; least = v })) (sym h.2) (sym h.3)
     (sound-falls before.pool before.least u (lesser_falls before.least h.0) (lesser_offered before.pool.job.instance before.least h.0 z sound.least_is h.1) sound)
 
 -- ---- any event, and every run
-pub sound_step : (event : Event) (before after : World) → Step before event after → IsSound before → IsSound after
+pub sound_step : (event : Event) (before after : Search) → Step before event after → IsSound before → IsSound after
 sound_step (Lease e) before after h sound = sound_lease e before after h sound
 sound_step Halt before after h sound = sound_halt before after h sound
 sound_step (Offer z) before after h sound = sound_offer z before after h sound
 sound_step (Return e seen) before after h sound = sound_return e seen before after h sound
 
-pub sound_run : (events : List Event) (before after : World) → Run before events after → IsSound before → IsSound after
+pub sound_run : (events : List Event) (before after : Search) → Run before events after → IsSound before → IsSound after
 sound_run [] before after h sound = subst IsSound (sym h) sound
 sound_run (event ∷ events) before after h sound =
     sound_run events h.0 after h.2 (sound_step event before h.0 h.1 sound)

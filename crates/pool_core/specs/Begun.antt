@@ -1,8 +1,6 @@
 -- Pools that begin from the nodes of a finished tree.
 use Rattle.std.specs.Prelude.{◌≡◌, ℕ, ◌≤◌, Bool, true, List, [], map, filter, not, count_by, length, All, None, IsPermutation}
-use Rattle.siting_definitions.specs.declared.Mark.{Mark}
 use Rattle.siting_definitions.specs.declared.Mark.TheVariants.{Left}
-use Rattle.siting_definitions.specs.Bounds.{fine_of}
 use Rattle.siting_definitions.specs.Tree.{Tree, preorder}
 use Rattle.siting_definitions.specs.Marks.{AreMarks, is_left}
 use Rattle.discard_log.specs.declared.node.Node.{Node}

@@ -1,10 +1,9 @@
 -- What the fields of a pool show.
-use Rattle.std.specs.Prelude.{◌≡◌, ℕ, ◌+◌, ◌*◌, ◌-◌, ◌≤◌, List, take, length, vec_len, vec_capacity, Option}
-use Rattle.siting_definitions.specs.Square.{Square}
+use Rattle.std.specs.Prelude.{◌≡◌, ◌+◌, ◌*◌, ◌-◌, ◌≤◌, take, length, vec_len, vec_capacity}
 use Rattle.pool_core.specs.declared.pool.Pool.TheInside.{Inside}
 use Rattle.pool_core.specs.Job.{IsJob}
 use Rattle.pool_core.specs.State.{State, open_count, split_count}
-use Rattle.pool_core.specs.Sound.{CountsFit}
+use Rattle.pool_core.specs.Sound.{SearchCountsFit}
 
 abbrev pub state_of : Inside → State
 state_of a =
@@ -22,7 +21,7 @@ state_of a =
 -- The counts fit, and each room suffices for all that may come: a tree has one square and four more for each that is split.
 pub record Fits (a : Inside) : Type 0 where
   pub job : IsJob a.job
-  pub counts : CountsFit (state_of a)
+  pub counts : SearchCountsFit (state_of a)
   pub size : length a.log.nodes + open_count (state_of a) ≡ 1 + 4 * split_count a.log.nodes
   pub begun : a.begun_nodes ≤ length a.log.nodes
   pub waiting_room : length a.waiting.entries + a.waiting.spare ≡ a.job.pool

@@ -1,9 +1,8 @@
 -- The machine: which events may follow a state, and what each does.
-use Rattle.std.specs.Prelude.{◌≡◌, ℕ, ◌+◌, ◌<◌, nat_lt, ℤ, ◌≤ℤ◌, Bool, true, false, cond, ◌&&◌, ◌||◌, is_some, List, [], ◌∷◌, ◌++◌, map, length, All, IsPermutation, Option, Some, None, MatchOption, ⊤}
+use Rattle.std.specs.Prelude.{◌≡◌, ◌+◌, ◌<◌, nat_lt, ℤ, ◌≤ℤ◌, Bool, true, false, cond, ◌&&◌, ◌||◌, is_some, List, [], ◌∷◌, ◌++◌, map, length, All, IsPermutation, Option, Some, None, MatchOption, ⊤}
 use Rattle.siting_definitions.specs.declared.Mark.TheVariants.{Split, Shut, Bounded as BoundedMark, Floor as FloorMark}
 use Rattle.siting_definitions.specs.Point.{Pt}
 use Rattle.siting_definitions.specs.Square.{Square, quarters}
-use Rattle.siting_definitions.specs.Bounds.{upper_of}
 use Rattle.siting_definitions.specs.Sites.{centre_cost}
 use Rattle.siting_definitions.specs.Marks.{IsAtMost, IsNoneOrAtLeast, lesser}
 use Rattle.discard_log.specs.declared.node.Node.{Node}
@@ -14,7 +13,7 @@ use Rattle.pool_core.specs.declared.verdict.Finding.{Finding}
 use Rattle.pool_core.specs.declared.verdict.Finding.TheVariants.{Excluded, Bounded, Raise, Part, Floor}
 use Rattle.pool_core.specs.Job.{Job, IsOffer, start_cost}
 use Rattle.pool_core.specs.Verdict.{finding_of, is_part}
-use Rattle.pool_core.specs.State.{State, World, open_count}
+use Rattle.pool_core.specs.State.{State, Search, open_count}
 
 -- a waiting entry of least bound becomes leased
 pub record Leases (e : Entry) (before after : State) : Type 0 where
@@ -73,14 +72,14 @@ pub record Returns (e : Entry) (seen : Option ℤ) (finding : Finding) (before a
   pub leases : after.leases ≡ before.leases
   pub beginning : after.beginning ≡ before.beginning
 
--- v is a number of the incumbent that was seen before it fell to u
+-- v is a number of the incumbent that was seen before it fell to u; none is seen only where the job has no start
 abbrev pub IsSeen : Job → Option ℤ → Option ℤ → Type 0
 IsSeen j u None = j.start ≡ None
 IsSeen j u (Some v) = IsAtMost u v × IsNoneOrAtLeast (start_cost j) v
 
 -- What may be seen when an entry comes back with a finding: a number of the incumbent, and where the square is to be cut and has
 -- a centre site, one that is at most the upper cost of that site.
-pub record MayReturn (e : Entry) (seen : Option ℤ) (w : World) : Type 0 where
+pub record MayReturn (e : Entry) (seen : Option ℤ) (w : Search) : Type 0 where
   pub seen_is : IsSeen w.pool.job w.least seen
   pub centre : is_part (finding_of w.pool.job e seen) ≡ true → MatchOption (centre_cost w.pool.job.instance e.square) ⊤ (IsAtMost seen)
 
@@ -91,7 +90,7 @@ pub data Event : Type 0 where
   Return : Entry → Option ℤ → Event
 
 -- An offer of a permitted site lowers the least upper cost to its own. The other events leave the least as it is.
-abbrev pub Step : World → Event → World → Type 0
+abbrev pub Step : Search → Event → Search → Type 0
 Step before (Lease e) after = Leases e before.pool after.pool × (after.least ≡ before.least)
 Step before Halt after = Halts before.pool after.pool × (after.least ≡ before.least)
 Step before (Offer z) after =
@@ -100,6 +99,6 @@ Step before (Return e seen) after =
     MayReturn e seen before × Returns e seen (finding_of before.pool.job e seen) before.pool after.pool × (after.least ≡ before.least)
 
 -- each event in turn, from the state that the one before left
-abbrev pub Run : World → List Event → World → Type 0
+abbrev pub Run : Search → List Event → Search → Type 0
 Run before [] after = after ≡ before
-Run before (event ∷ events) after = (mid : World) × Step before event mid × Run mid events after
+Run before (event ∷ events) after = (mid : Search) × Step before event mid × Run mid events after

@@ -1,5 +1,5 @@
 -- When a state is sound: its squares are those of one tree, its counts fit, and its bounds and marks are right.
-use Rattle.std.specs.Prelude.{◌≡◌, ℕ, ◌+◌, ◌*◌, ◌<◌, ◌≤◌, ℤ, ◌+ℤ◌, ◌≤ℤ◌, true, false, List, [], ◌++◌, map, length, All, IsPermutation, Option, Some, None, MatchOption, ⊤}
+use Rattle.std.specs.Prelude.{◌≡◌, ◌+◌, ◌*◌, ◌<◌, ◌≤◌, ℤ, ◌+ℤ◌, ◌≤ℤ◌, true, false, List, [], ◌++◌, length, All, IsPermutation, Option, Some, None, MatchOption, ⊤}
 use Rattle.siting_definitions.specs.declared.Mark.{Mark}
 use Rattle.siting_definitions.specs.declared.Mark.TheVariants.{Split, Shut, Bounded, Floor, Left}
 use Rattle.siting_definitions.specs.Point.{Pt}
@@ -14,7 +14,7 @@ use Rattle.bound_heap.specs.declared.entry.Entry.{Entry}
 use Rattle.pool_core.specs.declared.stop.Stop.{Stop}
 use Rattle.pool_core.specs.declared.stop.Stop.TheVariants.{PoolFull, Budget}
 use Rattle.pool_core.specs.Job.{Job, IsLawful, IsOffer, job_root, start_cost, cost_in}
-use Rattle.pool_core.specs.State.{State, World, open_count, squares_of, split_count, unsplit_count, raised_count}
+use Rattle.pool_core.specs.State.{State, Search, open_count, squares_of, split_count, unsplit_count, raised_count}
 
 -- Waiting, leased and logged squares are those of one tree of the root, each once, and the split ones are those with quarters
 -- in it.
@@ -22,8 +22,8 @@ abbrev pub AreTree : State → Type 0
 AreTree s = (t : Tree) × Fits t (job_root s.job).level × IsPermutation (squares_of s) (preorder t (job_root s.job))
 
 -- The counts. Each lease did something that can be counted: it made a node, raised an entry, is still out, or was kept. A node
--- took two leases at most, and what was there at the beginning none.
-pub record CountsFit (s : State) : Type 0 where
+-- took two leases at most. What was there at the beginning is taken off, with the leases that had been given until then.
+pub record SearchCountsFit (s : State) : Type 0 where
   pub open_most : open_count s ≤ s.job.pool
   pub leased : split_count s.nodes + length s.leased ≤ s.leases
   pub budget : s.leases ≤ s.job.budget
@@ -33,7 +33,8 @@ pub record CountsFit (s : State) : Type 0 where
   pub work : s.leases + (2 * length s.beginning.nodes + s.beginning.raised)
       ≤ (2 * length s.nodes + raised_count s.waiting + length s.leased + raised_count s.leased + s.kept) + s.beginning.leases
 
--- a stop at the budget has the leases, and one for want of room has a count of open squares, all of whose leaves are still there
+-- A stop at the budget has the leases. One for want of room has a count of open squares, and at least as many of the squares that
+-- aren't split came after the beginning.
 abbrev pub StopFits : State → Option Stop → Type 0
 StopFits s None = ⊤
 StopFits s (Some (Budget leases)) = (leases ≡ s.leases) × (s.leases ≡ s.job.budget)
@@ -44,7 +45,7 @@ StopFits s (Some (PoolFull count)) =
 -- what of soundness doesn't speak of bounds and costs
 pub record IsConsistent (s : State) : Type 0 where
   pub tree : AreTree s
-  pub counts : CountsFit s
+  pub counts : SearchCountsFit s
   pub stop_fits : StopFits s s.stop
   pub begun : (later : List Node) × (s.nodes ≡ s.beginning.nodes ++ later)
 
@@ -54,17 +55,17 @@ pub record EntryFits (i : Instance) (e : Entry) : Type 0 where
   pub raised : e.raised ≡ true → (e.bound ≡ fine_of i e.square) × (is_excluded i e.square ≡ false)
 
 -- the mark of a logged square is right, with u the least upper cost
-abbrev pub MarkFits : Instance → ℤ → Option ℤ → Square → Mark → Type 0
-MarkFits i gap u s (Split seen) = IsCalledFor i gap u s seen
-MarkFits i gap u s Shut = is_excluded i s ≡ true
-MarkFits i gap u s (Bounded c) = (is_excluded i s ≡ false) × (c ≤ℤ fine_of i s) × IsAtMost u (c +ℤ gap)
-MarkFits i gap u s (Floor b) = (is_excluded i s ≡ false) × (s.level ≡ 0) × (b ≡ fine_of i s)
-MarkFits i gap u s (Left b) = ⊥
+abbrev pub LoggedFits : Instance → ℤ → Option ℤ → Square → Mark → Type 0
+LoggedFits i gap u s (Split seen) = IsCalledFor i gap u s seen
+LoggedFits i gap u s Shut = is_excluded i s ≡ true
+LoggedFits i gap u s (Bounded c) = (is_excluded i s ≡ false) × (c ≤ℤ fine_of i s) × IsAtMost u (c +ℤ gap)
+LoggedFits i gap u s (Floor b) = (is_excluded i s ≡ false) × (s.level ≡ 0) × (b ≡ fine_of i s)
+LoggedFits i gap u s (Left b) = ⊥
 
 abbrev pub NodeFits : Instance → ℤ → Option ℤ → Node → Type 0
-NodeFits i gap u n = MarkFits i gap u n.square n.mark
+NodeFits i gap u n = LoggedFits i gap u n.square n.mark
 
-pub record IsSound (w : World) : Type 0 where
+pub record IsSound (w : Search) : Type 0 where
   pub job : IsLawful w.pool.job
   pub consistent : IsConsistent w.pool
   pub waiting : All (EntryFits w.pool.job.instance) w.pool.waiting

@@ -26,8 +26,8 @@ pub record State : Type 0 where
   pub stop : Option Stop
   pub beginning : Beginning
 
--- a state, and the least upper cost of the sites offered, if there is one
-pub record World : Type 0 where
+-- a search: a state, and the least upper cost of the sites that were offered, if there is one
+pub record Search : Type 0 where
   pub pool : State
   pub least : Option ℤ
 
@@ -69,5 +69,5 @@ first_state j =
       beginning = record { nodes = []; raised = 0; leases = 0 };
     }
 
-abbrev pub first_world : Job → World
-first_world j = record { pool = first_state j; least = start_cost j }
+abbrev pub first_search : Job → Search
+first_search j = record { pool = first_state j; least = start_cost j }

@@ -1,5 +1,5 @@
 -- The verdict on a leased square.
-use Rattle.std.specs.Prelude.{ℕ, nat_lt, ◌==◌, ℤ, pos, ◌+ℤ◌, ◌-ℤ◌, Bool, true, false, cond, not, ◌&&◌, Option}
+use Rattle.std.specs.Prelude.{nat_lt, ◌==◌, ℤ, pos, ◌+ℤ◌, ◌-ℤ◌, Bool, true, false, cond, not, ◌&&◌, Option}
 use Rattle.std.specs.Int.{int_max}
 use Rattle.siting_definitions.specs.Instance.{weight}
 use Rattle.siting_definitions.specs.Bounds.{coarse_of, fine_of}

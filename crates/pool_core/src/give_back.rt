@@ -31,7 +31,8 @@ pub enum Given {
 }
 
 impl Pool {
-    /// Takes a leased square back with the verdict on it.
+    /// Takes a leased square back with the verdict on it. The lease is one of this pool's, and the verdict is the one on it for the pool's
+    /// job and the number that was seen.
     pub fn give_back(&mut self, lease: Lease, verdict: Verdict) -> Given
         requires leased { Contains self.old.leased lease }
         requires verdict { verdict.finding ≡ finding_of self.old.job lease verdict.seen }

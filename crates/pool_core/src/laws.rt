@@ -6,7 +6,7 @@ ghost use Rattle.siting_definitions.specs.Tree.{leaves};
 ghost use Rattle.discard_log.specs.declared.node.Node.{Node};
 ghost use Rattle.pool_core.specs.Begun.{IsBegunFrom, IsResumable};
 ghost use Rattle.pool_core.specs.Job.{Job, IsLawful, job_root};
-ghost use Rattle.pool_core.specs.State.{State, World, first_state, squares_of};
+ghost use Rattle.pool_core.specs.State.{State, Search, first_state, squares_of};
 ghost use Rattle.pool_core.specs.Machine.{Event, Run};
 ghost use Rattle.pool_core.specs.Sound.{IsPoolOf, IsSound};
 
@@ -14,8 +14,8 @@ ghost use Rattle.pool_core.specs.Sound.{IsPoolOf, IsSound};
 /// sound, and what waits, what is leased and the logged squares that aren't split tile the root.
 pub fn every_run_is_sound()
     ensures first { (j : Job) → IsLawful j → IsPoolOf j (first_state j) }
-    ensures sound { (before after : World) (events : List Event) → IsSound before → Run before events after → IsSound after }
-    ensures tiles { (w : World) → IsSound w → Tiles (leaves (squares_of w.pool)) (job_root w.pool.job) }
+    ensures sound { (before after : Search) (events : List Event) → IsSound before → Run before events after → IsSound after }
+    ensures tiles { (w : Search) → IsSound w → Tiles (leaves (squares_of w.pool)) (job_root w.pool.job) }
 {}
 
 /// A pool that begins from the nodes of a finished tree begins in a sound state.

@@ -67,7 +67,7 @@ impl Model for Pool {
 
 impl Pool {
     /// The pool in which the root of the job waits with its coarse bound. It takes room for as many entries as may be open, and for
-    /// the nodes of as many cuts as leases may be given.
+    /// the nodes of as many cuts as leases may be given; `NoMemory` where there is not enough.
     pub fn begin(alloc: Global, job: &Job) -> Result<Pool, NoMemory>
         ensures { IfOk result (λ pool. pool ≡ first_state job.now) }
     {
@@ -96,7 +96,8 @@ impl Pool {
         })
     }
 
-    /// The pool in which the squares of a finished tree that were left open wait, after this many leases. The nodes are in preorder.
+    /// The pool in which the squares of a finished tree that were left open wait, after this many leases. The nodes are in preorder, with the
+    /// finished marks for the start's cost. It takes room as `begin` does; `NoMemory` where there is not enough.
     pub fn begin_from(
         alloc: Global,
         job: &Job,

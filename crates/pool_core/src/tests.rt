@@ -207,3 +207,58 @@ fn squares_left_open(rt: HostRuntime) {
     assert_eq!(rt; pool.leases(), 2);
     assert_eq!(rt; pool.into_nodes().nodes().len(), 9);
 }
+
+/// The stop that is answered, if there is one.
+fn stop_in(answer: LeaseAnswer) -> Option<Stop> {
+    match answer {
+        LeaseAnswer::Stopped(stop) => Some(stop),
+        _ => None,
+    }
+}
+
+#[test]
+fn leases_spent(rt: HostRuntime) {
+    let job = job(&rt, rt.alloc(), 1, 100000);
+    let mut pool = Pool::begin(rt.alloc(), &job).expect(&rt, "memory");
+    let (_, _, _, _, given) = step(&rt, &mut pool, &job, Some(185364));
+    assert_eq!(rt; given, Given::Parted);
+    let stop = Some(Stop::Budget { leases: 1 });
+    assert_eq!(rt; stop_in(pool.lease()), stop);
+    assert_eq!(rt; pool.stop(), stop);
+}
+
+#[test]
+fn no_room_for_quarters(rt: HostRuntime) {
+    let job = job(&rt, rt.alloc(), 10, 3);
+    let mut pool = Pool::begin(rt.alloc(), &job).expect(&rt, "memory");
+    let (_, _, _, _, given) = step(&rt, &mut pool, &job, Some(185364));
+    assert_eq!(rt; given, Given::Kept);
+    assert_eq!(rt; pool.open_count(), 1);
+    let stop = Some(Stop::PoolFull { count: 1 });
+    assert_eq!(rt; stop_in(pool.lease()), stop);
+    assert_eq!(rt; pool.stop(), stop);
+}
+
+#[test]
+fn nothing_waits(rt: HostRuntime) {
+    let job = job(&rt, rt.alloc(), 10, 4);
+    let mut pool = Pool::begin(rt.alloc(), &job).expect(&rt, "memory");
+    let (_, _, _, finding, given) = step(&rt, &mut pool, &job, Some(185));
+    assert_eq!(rt; (finding, given), (Finding::Bounded(0), Given::Logged));
+    assert!(rt; matches!(pool.lease(), LeaseAnswer::Done));
+    let mut pool = Pool::begin(rt.alloc(), &job).expect(&rt, "memory");
+    assert!(rt; matches!(pool.lease(), LeaseAnswer::Leased(_)));
+    assert!(rt; matches!(pool.lease(), LeaseAnswer::Idle));
+    assert_eq!(rt; pool.stop(), None);
+}
+
+fn may_be_sent<T: Send>(_value: &T) {}
+
+fn may_be_shared<T: Send + Sync>(_value: &T) {}
+
+#[test]
+fn threads_share_a_job_and_hand_a_pool_on(rt: HostRuntime) {
+    let job = job(&rt, rt.alloc(), 1, 1);
+    may_be_shared(&job);
+    may_be_sent(&Pool::begin(rt.alloc(), &job).expect(&rt, "memory"));
+}

@@ -1,6 +1,7 @@
 -- The answer of a search that ended is valid, it is that of the search, and it shows its work.
 use Rattle.std.proofs.Common.{◌≡◌, ℕ, ◌+◌, ◌*◌, ◌<◌, ◌≤◌, ◌==◌, ℤ, Bool, true, false, cond, not, is_some, List, [], ◌∷◌, ◌++◌, map, length, Option, None, Some, refl, sym, ap, ◌∙◌, subst, arith}
 use Rattle.std.specs.Prelude.{⊤, All, IsPermutation, MatchOption, option_map}
+use Rattle.std.proofs.lemmas.Bool.{false≢true}
 use Rattle.std.proofs.lemmas.Bool.Decides.{nat_tests}
 use Rattle.std.proofs.lemmas.List.{map-append}
 use Rattle.std.proofs.lemmas.List.Sorted.{IsPermutation-map, IsPermutation-trans, IsPermutation-append_comm}
@@ -67,6 +68,13 @@ counted_by false true c h t stop e counts = e
 counted_by false false true h t stop e counts = e
 counted_by false false false h t stop e counts = stop_counted h t stop e (counts refl)
 
+stopped_by : (a b c : Bool) (h : Head) (t : Tally) (stop : Option Stop) → (c ≡ false → StopCounts h t stop) → is_stopped (word_by a b c (stop_word stop)) ≡ true → is_some stop ≡ true
+stopped_by true b c h t stop counts e = absurd (false≢true e)
+stopped_by false true c h t stop counts e = absurd (false≢true e)
+stopped_by false false true h t stop counts e = absurd (false≢true e)
+stopped_by false false false h t None counts e = absurd (counts refl)
+stopped_by false false false h t (Some stop) counts e = refl
+
 -- what a head shows of the work where a leaf is left open
 abbrev StopWork : Head → Tally → ℕ → Option Stop → Type 0
 StopWork h t workers None = ⊥
@@ -90,7 +98,7 @@ open_left n h = grind (arith, nat_tests)
 
 -- nothing is leased, and without a stop nothing waits
 pub record IsEnded (s : State) : Type 0 where
-  pub sound : sound.CountsFit s
+  pub sound : sound.SearchCountsFit s
   pub stop_fits : StopFits s s.stop
   pub leased : s.leased ≡ []
   pub ended : s.stop ≡ None → s.waiting ≡ []
@@ -133,6 +141,12 @@ ending_works : (s : State) (best : Option (Pt × ℤ)) (t : Tally) (workers : �
 ending_works s best t workers tally h kept =
     worked_by (not (is_some t.least)) (t.open_leaves + t.floor_leaves == 0) (t.open_leaves == 0) (head_at s best t) t workers s.stop
     (λ some. stop_work s best t workers s.stop tally h kept h.ended (open_left t.open_leaves some))
+
+ending_stopped : (s : State) (best : Option (Pt × ℤ)) (t : Tally) → TallyFits t s.nodes s.waiting → IsEnded s → is_stopped (ending_word t s.stop) ≡ true → is_some s.stop ≡ true
+ending_stopped s best t tally h =
+    let none : length s.leased ≡ 0 = ap length h.leased in
+    stopped_by (not (is_some t.least)) (t.open_leaves + t.floor_leaves == 0) (t.open_leaves == 0) (head_at s best t) t s.stop
+    (λ some. stop_counts s best t s.stop tally none h.stop_fits h.ended (open_left t.open_leaves some))
 
 -- ---- the best site
 best_priced : (j : Job) (best : Option (Pt × ℤ)) → MatchOption best ⊤ (λ z. IsOffer j.instance z.0 z.1) → MatchOption (best_by j.instance best) ⊤ (IsPriced j.instance)
@@ -238,6 +252,7 @@ answer_finishes s best ls h ranges mark_ranges = record {
   best_is = offer_is s.job best h.finished.best_is;
   leases = refl;
   word = refl;
+  stopped = ending_stopped s best (tally_of (marks_at s.job best ls)) (marks_tallied s best ls h) (ended s.job s best h.finished);
   open_count = refl;
   squares = squares_kept s (cost_in best) ls h.finished.leased h.nodes;
   splits = splits_kept s.job (cost_in best) s.nodes ls s.waiting h.nodes;

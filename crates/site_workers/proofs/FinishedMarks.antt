@@ -22,7 +22,7 @@ use Rattle.bound_heap.specs.declared.entry.Entry.{Entry}
 use Rattle.certificate.specs.Written.{mark_of}
 use Rattle.pool_core.specs.Job.{Job}
 use Rattle.pool_core.specs.State.{split_count, unsplit_count}
-use Rattle.pool_core.specs.Sound.{MarkFits, NodeFits}
+use Rattle.pool_core.specs.Sound.{LoggedFits, NodeFits}
 use Rattle.pool_core.specs.Begun.{left_of}
 use Rattle.pool_core.proofs.CountsKept.{length-permutation}
 use Rattle.site_workers.specs.Ending.{finished_mark, finished_node}
@@ -62,7 +62,7 @@ split_kept i gap u s (Floor b) = leaf_unsplit i gap u s
 split_kept i gap u s (Left b) = leaf_unsplit i gap u s
 
 -- a node that is logged is not left open
-mark_closed : (i : Instance) (gap : ℤ) (u : Option ℤ) (s : Square) (m : Mark) → MarkFits i gap u s m → is_left (cond (is_split m) m (leaf_mark i gap u s)) ≡ false
+mark_closed : (i : Instance) (gap : ℤ) (u : Option ℤ) (s : Square) (m : Mark) → LoggedFits i gap u s m → is_left (cond (is_split m) m (leaf_mark i gap u s)) ≡ false
 mark_closed i gap u s (Split v) h = refl
 mark_closed i gap u s Shut h = leaf_closed i gap u s (λ no short. absurd (true≢false (sym h ∙ no)))
 mark_closed i gap u s (Bounded c) h =
@@ -92,7 +92,7 @@ squares_same j u (n ∷ ns) =
 abbrev SplitKept : Instance → ℤ → Option ℤ → Node → Type 0
 SplitKept i gap u n = is_split n.mark ≡ true → SplitFits i gap u n.square n.mark
 
-split_fits : (i : Instance) (gap : ℤ) (u : Option ℤ) (s : Square) (m : Mark) → MarkFits i gap u s m → is_split m ≡ true → SplitFits i gap u s m
+split_fits : (i : Instance) (gap : ℤ) (u : Option ℤ) (s : Square) (m : Mark) → LoggedFits i gap u s m → is_split m ≡ true → SplitFits i gap u s m
 split_fits i gap u s (Split v) h said = h
 split_fits i gap u s Shut h said = absurd (false≢true said)
 split_fits i gap u s (Bounded b) h said = absurd (false≢true said)

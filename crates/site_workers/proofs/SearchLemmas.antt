@@ -19,12 +19,12 @@ use Rattle.pool_core.specs.declared.stop.Stop.TheVariants.{PoolFull, Budget}
 use Rattle.pool_core.specs.declared.verdict.Finding.{Finding}
 use Rattle.pool_core.specs.Job.{Job, IsJob, IsLawful, IsOffer, cost_in, start_cost}
 use Rattle.pool_core.specs.Verdict.{finding_of, is_part}
-use Rattle.pool_core.specs.State.{State, World, open_count}
+use Rattle.pool_core.specs.State.{State, Search, open_count}
 use Rattle.pool_core.specs.Machine.{Leases, Halts, Returns, MayReturn, IsSeen, Lease, Halt, Offer, Return, Step, is_kept, first_stop}
 use Rattle.pool_core.specs.Sound.{IsSound, IsPoolOf, IsFinished}
 use Rattle.pool_core.proofs.SoundSteps.{sound_lease, sound_halt, sound_offer, sound_return}
 use Rattle.site_workers.specs.Ending.{IsImproved, is_full}
-use Rattle.site_workers.specs.Search.{IsBetween, better_of, centre_offer}
+use Rattle.site_workers.specs.Search.{Searched, SearchEnds, IsBetween, better_of, centre_offer}
 
 some≢none : {X : Type 0} (x : X) → Some x ≡ None → ⊥
 some≢none x e = grind (arith)
@@ -100,6 +100,8 @@ begun j s job h = record {
   best_is = job.start;
   improved = improved-itself j.start;
   beginning = refl;
+  so_far = [];
+  searched = (refl, refl);
   kept = h.sound.consistent.counts.going h.going ∙ sym (ap (λ (stop : Option Stop). cond (is_full stop) 1 0) h.going);
 }
 
@@ -148,6 +150,16 @@ turned_from first s s1 s2 e best best' b t =
       best_is = subst (λ (z : Option (Pt × ℤ)). MatchOption z ⊤ (λ o. IsOffer s1.job.instance o.0 o.1)) (sym t.best_is) (better-offer s1.job.instance best offered b.best_is t.offer);
       improved = improved;
       beginning = t.returns.beginning ∙ t.leases.beginning ∙ b.beginning;
+      so_far = e ∷ b.so_far;
+      searched = (
+        s,
+        s1,
+        best,
+        b.searched,
+        t.leases,
+        subst (λ (k : Job). best' ≡ better_of best (centre_offer k.instance e.square)) t.leases.job t.best_is,
+        subst (λ (k : Job). Returns e u' (finding_of k e u') s1 s2) t.leases.job t.returns,
+      );
       kept = kept_after (is_kept s1 (finding_of s1.job e u')) (open_count s1) s1.kept s2.kept s1.stop s2.stop (t.leases.stop ∙ t.leases.going)
           (t.leases.kept ∙ b.kept ∙ ap (λ (stop : Option Stop). cond (is_full stop) 1 0) t.leases.going) t.returns.kept t.returns.stop;
     }
@@ -162,22 +174,22 @@ turned j first s s1 s2 e best best' b t =
 pub done : (j : Job) (first s : State) (best : Option (Pt × ℤ)) → IsBetween j first s best → s.waiting ≡ [] → IsFinished j s best
 done j first s best b none = record { job = b.job; leased = b.leased; ended = λ going. none; sound = b.sound; best_is = b.best_is }
 
+pub ends : (j : Job) (first s s' : State) (best : Option (Pt × ℤ)) → IsBetween j first s best → ((s' ≡ s) ⊎ Halts s s') → SearchEnds first j.start s' best
+ends j first s s' best b last = record { leased = b.so_far; last = s; searched = b.searched; ends = last }
+
+halted : (j : Job) (first s : State) (stop : Stop) (best : Option (Pt × ℤ)) → IsBetween j first s best → s.stop ≡ Some stop → IsFinished j s best
+halted j first s stop best b said = record { job = b.job; leased = b.leased; ended = λ going. absurd (some≢none stop (sym said ∙ going)); sound = b.sound; best_is = b.best_is }
+
 -- a stop was there, or it comes at the spent budget
-pub stopped : (j : Job) (first s s' : State) (stop : Stop) (best : Option (Pt × ℤ)) → IsBetween j first s best → (s'.stop ≡ Some stop) → ((s' ≡ s) ⊎ Halts s s') → IsBetween j first s' best
-stopped j first s s' stop best b said (inl same) = subst (λ (t : State). IsBetween j first t best) (sym same) b
+pub stopped : (j : Job) (first s s' : State) (stop : Stop) (best : Option (Pt × ℤ)) → IsBetween j first s best → (s'.stop ≡ Some stop) → ((s' ≡ s) ⊎ Halts s s') → IsFinished j s' best
+stopped j first s s' stop best b said (inl same) =
+    subst (λ (t : State). IsFinished j t best) (sym same) (halted j first s stop best b (sym (ap (λ (t : State). t.stop) same) ∙ said))
 stopped j first s s' stop best b said (inr halts) =
-    let sound = sound_halt (record { pool = s; least = cost_in best }) (record { pool = s'; least = cost_in best }) (halts, refl) b.sound in
-    let none : s.stop ≡ None = halts.going in
     let after = halts.halted in
     record {
       job = ap (λ (t : State). t.job) after ∙ b.job;
       leased = ap (λ (t : State). t.leased) after ∙ b.leased;
-      sound = sound;
+      ended = λ going. absurd (some≢none stop (sym said ∙ going));
+      sound = sound_halt (record { pool = s; least = cost_in best }) (record { pool = s'; least = cost_in best }) (halts, refl) b.sound;
       best_is = b.best_is;
-      improved = b.improved;
-      beginning = ap (λ (t : State). t.beginning) after ∙ b.beginning;
-      kept = ap (λ (t : State). t.kept) after ∙ b.kept ∙ ap (λ (o : Option Stop). cond (is_full o) 1 0) none ∙ sym (ap (λ (t : State). cond (is_full t.stop) 1 0) after);
     }
-
-pub halted : (j : Job) (first s : State) (stop : Stop) (best : Option (Pt × ℤ)) → IsBetween j first s best → s.stop ≡ Some stop → IsFinished j s best
-halted j first s stop best b said = record { job = b.job; leased = b.leased; ended = λ going. absurd (some≢none stop (sym said ∙ going)); sound = b.sound; best_is = b.best_is }

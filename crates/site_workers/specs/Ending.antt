@@ -7,7 +7,7 @@ use Rattle.siting_definitions.specs.Instance.{Instance}
 use Rattle.siting_definitions.specs.Bounds.{lower_of, upper_of}
 use Rattle.siting_definitions.specs.Tree.{Tree, preorder}
 use Rattle.siting_definitions.specs.Marks.{Tally, tally_of, leaf_mark, is_split, AreMarks}
-use Rattle.siting_definitions.specs.Answer.{Best, Head, Answer, IsValid}
+use Rattle.siting_definitions.specs.Answer.{Best, Head, Answer, IsValid, is_stopped}
 use Rattle.siting_definitions.specs.declared.Mark.{Mark}
 use Rattle.discard_log.specs.declared.node.Node.{Node}
 use Rattle.discard_log.specs.Nodes.{tree_square}
@@ -33,7 +33,7 @@ KeptBy s workers (Some (BudgetStop leases)) = s.kept < workers
 abbrev pub IsKeptBy : State → ℕ → Type 0
 IsKeptBy s workers = KeptBy s workers s.stop
 
--- the word of a stop; without one no leaf is left open, and it isn't asked for
+-- the word of a stop; without a stop no leaf is left open, and it isn't asked for
 abbrev pub stop_word : Option Stop → Word
 stop_word None = Budget
 stop_word (Some (FullStop count)) = PoolFull
@@ -88,7 +88,7 @@ abbrev pub split_nodes : List Node → List Node
 split_nodes ns = filter (λ (n : Node). is_split n.mark) ns
 
 -- The answer is valid, and it is that of the search: it has the job's settings, the best site, the leases, the squares and the splits of
--- the pool, and the word and the open squares of its stop. Its nodes are in the preorder of the tree that has their marks.
+-- the pool, and the word and the open squares of its stop, without which no word of a stop comes. Its nodes are in the preorder of the tree that has their marks.
 pub record Finishes (j : Job) (s : State) (best : Option (Pt × ℤ)) (h : Head) (ns : List Node) : Type 0 where
   pub valid : IsValid (answer_of h ns)
   pub instance : h.instance ≡ j.instance
@@ -98,6 +98,7 @@ pub record Finishes (j : Job) (s : State) (best : Option (Pt × ℤ)) (h : Head)
   pub best_is : option_map offer_of h.best ≡ best
   pub leases : h.leases ≡ s.leases
   pub word : h.word ≡ ending_word (tally_of (map mark_of ns)) s.stop
+  pub stopped : is_stopped h.word ≡ true → is_some s.stop ≡ true
   pub open_count : h.open_count ≡ open_for h.word s.stop
   pub squares : IsPermutation (squares_of s) (map tree_square ns)
   pub splits : IsPermutation (split_nodes s.nodes) (split_nodes ns)

@@ -6,7 +6,7 @@ ghost use Rattle.pool_core.specs.Verdict.{finding_of};
 ghost use Rattle.pool_core.specs.Machine.{Returns};
 ghost use Rattle.pool_core.specs.Sound.{IsFinished, IsPoolOf};
 ghost use Rattle.site_workers.specs.Ending.{IsImproved, is_full};
-ghost use Rattle.site_workers.specs.Search.{better_of, centre_offer};
+ghost use Rattle.site_workers.specs.Search.{SearchEnds, better_of, centre_offer};
 
 use crate::closed::Closed;
 use candidate_sites::centre_site;
@@ -20,6 +20,7 @@ use site_model::Site;
 pub fn alone(job: &Job, pool: Pool) -> Closed
     requires { IsPoolOf job.now pool }
     ensures finished { IsFinished job.now result.pool result.best }
+    ensures searched { SearchEnds pool job.now.start result.pool result.best }
     ensures beginning { result.pool.beginning ≡ pool.beginning }
     ensures improved { IsImproved job.now.start result.best }
     ensures kept { result.pool.kept ≡ cond (is_full result.pool.stop) 1 0 }

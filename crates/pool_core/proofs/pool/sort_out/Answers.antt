@@ -1,8 +1,8 @@
-use Rattle.std.proofs.Common.{◌≡◌, ◌+◌, length, ap, ◌∙◌, FitsSigned, w64, rules, arith}
+use Rattle.std.proofs.Common.{◌≡◌, ◌+◌, length, ap, ◌∙◌, w64, rules, arith}
 use Rattle.std.proofs.lemmas.Int.{to_z-of_z}
 use Rattle.std.proofs.lemmas.List.{length_push}
 use Rattle.std.proofs.lemmas.List.Sorted.{length_permutation}
-use Rattle.pool_core.proofs.SortOut.{AreSortedOut, lefts_more, others_more, left_room, other_room}
+use Rattle.pool_core.proofs.SortOut.{lefts_more, others_more, left_room, other_room}
 use Rattle.pool_core.proofs.pool.sort_out.Goals.{in-Left, in_default}
 use Rattle.pool_core.proofs.pool.sort_out.Goals as goal
 

@@ -1,4 +1,4 @@
-use Rattle.std.proofs.Common.{◌≡◌, ◌<◌, false, true, ℤ, ◌+ℤ◌, ◌<ℤ◌, int_le, Option, Some, IsTrue, refl, sym, ap, ◌∙◌, subst, FitsSigned, w64, to_z, of_z, rules, arith}
+use Rattle.std.proofs.Common.{◌≡◌, ◌<◌, false, ℤ, ◌+ℤ◌, ◌<ℤ◌, int_le, Option, Some, IsTrue, sym, ◌∙◌, subst, FitsSigned, w64, rules}
 use Rattle.std.proofs.lemmas.Int.{to_z-of_z}
 use Rattle.siting_definitions.specs.Bounds.{fine_of}
 use Rattle.siting_definitions.specs.Excluded.{is_excluded}

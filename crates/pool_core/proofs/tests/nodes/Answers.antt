@@ -1,23 +1,20 @@
-use Rattle.std.proofs.Common.{◌≡◌, ℕ, zero, suc, ◌+◌, ◌*◌, ◌<◌, ◌≤◌, Bool, true, false, cond, ◌==◌, ℤ, pos, ◌+ℤ◌, List, [], ◌∷◌, ◌++◌, map, length, Option, None, Some, refl, sym, ap, ◌∙◌, subst, FitsSigned, w64, to_z, of_z, rules, arith}
+use Rattle.std.proofs.Common.{◌≡◌, ℕ, suc, ◌≤◌, Bool, true, false, cond, ◌==◌, ℤ, pos, ◌+ℤ◌, List, [], ◌∷◌, ◌++◌, map, length, Option, Some, refl, ap, ◌∙◌, subst, rules, arith}
 use Rattle.std.specs.List.{All}
 use Rattle.std.specs.List.Sorted.{IsPermutation}
 use Rattle.std.proofs.lemmas.List.Elements.{All-cons}
 use Rattle.std.proofs.lemmas.List.Sorted.{All-permutation, IsPermutation-refl, length_permutation}
 use Rattle.std.proofs.lemmas.List.Sums.{count_by-le-length}
-use Rattle.siting_definitions.specs.declared.Mark.{Mark}
 use Rattle.siting_definitions.specs.declared.Mark.TheVariants.{Split, Shut, Bounded, Floor, Left}
 use Rattle.siting_definitions.specs.Bounds.{fine_of}
 use Rattle.siting_definitions.specs.Excluded.{is_excluded}
 use Rattle.siting_definitions.specs.Instance.{Instance}
 use Rattle.siting_definitions.specs.Marks.{IsCalledFor, MarkFits, MarksFit, is_split, leaf_mark, reaches}
 use Rattle.siting_definitions.specs.Square.{Square, quarter_of}
-use Rattle.siting_definitions.specs.Tree.{Tree, TreeSquare, Leaf, Branch, Fits, preorder}
-use Rattle.discard_log.specs.LogView.{LogView}
+use Rattle.siting_definitions.specs.Tree.{Tree, Leaf, Branch, Fits, preorder}
 use Rattle.discard_log.specs.Nodes.{tree_square}
 use Rattle.discard_log.specs.declared.node.Node.{Node}
 use Rattle.pool_core.specs.Job.{Job, job_root, start_cost}
-use Rattle.pool_core.specs.State.{split_count}
-use Rattle.pool_core.specs.Begun.{IsResumable, is_left_open, left_count}
+use Rattle.pool_core.specs.Begun.{IsResumable, is_left_open}
 use Rattle.pool_core.proofs.Resumed.{nodes_size}
 use Rattle.pool_core.proofs.tests.nodes.Goals as goal
 

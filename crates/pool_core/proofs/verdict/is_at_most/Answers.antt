@@ -1,5 +1,5 @@
 use mir.Syntax.{w128}
-use Rattle.std.proofs.Common.{◌≡◌, ◌+ℤ◌, ◌-ℤ◌, pos, FitsSigned, w64, rules}
+use Rattle.std.proofs.Common.{◌+ℤ◌, ◌-ℤ◌, pos, FitsSigned, w64, rules}
 use Rattle.std.proofs.Math.Facts.{sfits_widen}
 use Rattle.std.proofs.lemmas.Int.{to_z-of_z}
 use Rattle.pool_core.proofs.verdict.is_at_most.Goals as goal

@@ -1,8 +1,8 @@
-use Rattle.std.proofs.Common.{◌≡◌, ℤ, Option, sym, ap, ◌∙◌, subst, arith}
+use Rattle.std.proofs.Common.{◌≡◌, ℤ, Option, sym, ap, ◌∙◌, subst, inl, arith}
 use Rattle.siting_definitions.specs.Point.{Pt}
 use Rattle.pool_core.specs.Job.{Job, IsJob}
 use Rattle.site_workers.specs.Search.{IsBetween}
-use Rattle.site_workers.proofs.SearchLemmas.{begun, leased_one, turned, done, stopped, halted}
+use Rattle.site_workers.proofs.SearchLemmas.{begun, leased_one, turned, ends, stopped}
 use Rattle.site_workers.proofs.worker.alone.Goals as goal
 
 pub loop-lease-init : goal.loop-lease-init
@@ -33,5 +33,16 @@ loop-lease-preserved c =
 pub returns-in-Stopped-clause-finished : goal.returns-in-Stopped-clause-finished
 returns-in-Stopped-clause-finished c =
     let e = c.in-Stopped.ensures in
-    halted c.args.job.now c.args.pool c.lease.new.self c.in-Stopped.field-0 c.loop-lease.best
-    (stopped c.args.job.now c.args.pool c.loop-lease.pool c.lease.new.self c.in-Stopped.field-0 c.loop-lease.best c.loop-lease.invariant e.0 e.1) e.0
+    stopped c.args.job.now c.args.pool c.loop-lease.pool c.lease.new.self c.in-Stopped.field-0 c.loop-lease.best c.loop-lease.invariant e.0 e.1
+
+pub returns-in-Stopped-clause-searched : goal.returns-in-Stopped-clause-searched
+returns-in-Stopped-clause-searched c =
+    ends c.args.job.now c.args.pool c.loop-lease.pool c.lease.new.self c.loop-lease.best c.loop-lease.invariant c.in-Stopped.ensures.1
+
+pub returns-in-Done-clause-searched : goal.returns-in-Done-clause-searched
+returns-in-Done-clause-searched c =
+    ends c.args.job.now c.args.pool c.loop-lease.pool c.lease.new.self c.loop-lease.best c.loop-lease.invariant (inl c.in-Done.ensures.3)
+
+pub returns-in-Idle-clause-searched : goal.returns-in-Idle-clause-searched
+returns-in-Idle-clause-searched c =
+    ends c.args.job.now c.args.pool c.loop-lease.pool c.lease.new.self c.loop-lease.best c.loop-lease.invariant (inl c.in-Idle.ensures.3)

@@ -1,4 +1,4 @@
-use Rattle.std.proofs.Common.{◌≡◌, ◌+◌, false, ℤ, List, [], ◌∷◌, None, refl, sym, ap, ◌∙◌, subst, FitsSigned, w64, to_z, of_z, rules, arith}
+use Rattle.std.proofs.Common.{◌≡◌, false, ℤ, List, [], ◌∷◌, None, refl, sym, ap, ◌∙◌, FitsSigned, w64, rules}
 use Rattle.std.specs.List.Sorted.{IsPermutation}
 use Rattle.std.proofs.lemmas.Int.{to_z-of_z}
 use Rattle.siting_definitions.specs.Bounds.{coarse_of}
@@ -7,8 +7,7 @@ use Rattle.bound_heap.specs.HeapView.{HeapView}
 use Rattle.bound_heap.specs.declared.entry.Entry.{Entry}
 use Rattle.pool_core.specs.declared.pool.Pool.TheInside.{Inside}
 use Rattle.pool_core.specs.Job.{Job, job_root}
-use Rattle.pool_core.specs.State.{State, first_state, root_entry}
-use Rattle.pool_core.specs.Inside.{state_of}
+use Rattle.pool_core.specs.State.{first_state, root_entry}
 use Rattle.pool_core.proofs.Beginnings.{IsBeginning, beginning_fits, beginning_state, one_order}
 use Rattle.pool_core.proofs.pool.Pool.begin.Goals as goal
 

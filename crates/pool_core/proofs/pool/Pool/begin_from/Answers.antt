@@ -1,12 +1,10 @@
-use Rattle.std.proofs.Common.{◌≡◌, ◌+◌, ◌-◌, ◌*◌, ◌≤◌, List, [], length, None, refl, sym, ap, ◌∙◌, subst, rules, arith}
-use Rattle.std.specs.List.Sorted.{IsPermutation}
+use Rattle.std.proofs.Common.{◌-◌, List, length, None, refl, sym, ap, ◌∙◌, subst, arith}
 use Rattle.bound_heap.specs.HeapView.{HeapView}
 use Rattle.discard_log.specs.LogView.{LogView}
 use Rattle.discard_log.specs.declared.node.Node.{Node}
 use Rattle.pool_core.specs.declared.pool.Pool.TheInside.{Inside}
 use Rattle.pool_core.specs.Job.{Job}
-use Rattle.pool_core.specs.State.{State}
-use Rattle.pool_core.specs.Begun.{IsBegunFrom, IsResumable, closed_nodes, left_count}
+use Rattle.pool_core.specs.Begun.{IsBegunFrom, IsResumable}
 use Rattle.pool_core.specs.Inside.{state_of}
 use Rattle.pool_core.proofs.Resumed.{IsBegun, begun_fits, begun_state, closed_length, left_length}
 use Rattle.pool_core.proofs.pool.Pool.begin_from.Goals as goal

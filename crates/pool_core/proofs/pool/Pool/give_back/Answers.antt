@@ -1,11 +1,10 @@
-use Rattle.std.proofs.Common.{◌≡◌, ◌+◌, ◌++◌, [], ◌∷◌, true, false, ℤ, List, Some, refl, sym, ap, ◌∙◌, FitsSigned, w64, to_z, of_z, rules, arith}
+use Rattle.std.proofs.Common.{◌≡◌, ◌+◌, ◌++◌, [], ◌∷◌, true, false, ℤ, List, Some, refl, sym, ap, ◌∙◌, w64, to_z, of_z, rules, arith}
 use Rattle.std.specs.List.Sorted.{IsPermutation}
 use Rattle.std.proofs.lemmas.Int.{to_z-of_z}
 use Rattle.std.proofs.lemmas.List.{append-nil}
 use Rattle.std.proofs.lemmas.List.Sorted.{IsPermutation-refl}
 use Rattle.siting_definitions.specs.declared.Mark.TheVariants.{Bounded as BoundedMark, Floor as FloorMark}
 use Rattle.siting_definitions.specs.Square.{Square}
-use Rattle.discard_log.specs.declared.node.Node.{Node}
 use Rattle.bound_heap.specs.declared.entry.Entry.{Entry}
 use Rattle.pool_core.specs.declared.verdict.Finding.TheVariants.{Excluded, Bounded, Raise, Part, Floor}
 use Rattle.pool_core.specs.declared.pool.Pool.TheInside.{Inside}

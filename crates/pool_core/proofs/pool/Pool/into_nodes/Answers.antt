@@ -3,7 +3,7 @@ use Rattle.std.specs.List.Sorted.{IsPermutation}
 use Rattle.std.proofs.lemmas.List.{map-append}
 use Rattle.std.proofs.lemmas.List.Sorted.{IsPermutation-append_comm, IsPermutation-map, IsPermutation-sym, IsPermutation-trans}
 use Rattle.siting_definitions.specs.Square.{Square}
-use Rattle.siting_definitions.specs.Tree.{Tree, TreeSquare, Fits, preorder}
+use Rattle.siting_definitions.specs.Tree.{Tree, Fits, preorder}
 use Rattle.bound_heap.specs.declared.entry.Entry.{Entry}
 use Rattle.discard_log.specs.declared.node.Node.{Node}
 use Rattle.discard_log.specs.Nodes.{tree_square}

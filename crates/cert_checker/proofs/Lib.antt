@@ -1,0 +1,6 @@
+pub mod FaultLemmas
+mod StepLemmas
+mod CheckLemmas
+mod TreeLemmas
+mod ItemLemmas
+pub mod ValidLemmas

@@ -1,0 +1,154 @@
+//! Checking an answer.
+
+ghost use Rattle.std.specs.Prelude.{◌≡◌, ◌<◌, ◌≤◌, ◌^◌, ◌∷◌, [], IfSome, IsErrOf, OnOk};
+ghost use Rattle.std.specs.Result.{result_err};
+ghost use Rattle.port_io.specs.Faults.{Rose};
+ghost use Rattle.siting_definitions.specs.Sites.{opening_cost};
+ghost use Rattle.siting_definitions.specs.Marks as marks;
+ghost use Rattle.siting_definitions.specs.Marks.{tally_of};
+ghost use Rattle.certificate.specs.ReaderView.{coming, source_of, faults_of};
+ghost use Rattle.certificate.specs.Tallies.{joined};
+ghost use Rattle.cert_checker.specs.Checking.{accepted_of, checking};
+ghost use Rattle.cert_checker.specs.Walking.{stepped};
+ghost use Rattle.cert_checker.specs.Steps.{node_fault, last_fault, Answers, ReadsMarks};
+
+use crate::end::end_fault;
+use crate::faults::{CheckError, CheckFault, TREE_LONG, TREE_SHORT, plain};
+use crate::head::{best_in, opening_or_fault};
+use crate::mark::mark_fault;
+use crate::walk::Walk;
+use certificate::{AnswerReader, Head, Item, Tally};
+use port_io::Source;
+use site_model::Site;
+use siting_definitions::{Mark, Word};
+use std::alloc::Global;
+
+/// More lines than the text of an answer may have, with 2^30 bytes.
+const MORE_THAN_LINES: u64 = 1 << 31;
+
+/// What a valid answer says.
+#[derive(Clone, Copy, Debug, PartialEq, Eq)]
+pub struct Accepted {
+    /// How it ended.
+    pub word: Word,
+    /// Its site with the lower and the upper cost, in cost units, if there is one.
+    pub best: Option<(Site, i64, i64)>,
+    /// The lower bound over all permitted points, in cost units; none where no point is permitted.
+    pub bound: Option<i64>,
+    /// How many squares its tree has.
+    pub nodes: u64,
+}
+
+/// Checks the text of an answer, which is read as a stream: `Ok` exactly where it is the text of a valid answer, with nothing after
+/// it, and else its first fault. `ReadFault` comes only where the source's count of faults rose in this call, and `TooLong` where
+/// 2^30 bytes came without a fault, and more. Only the head takes memory.
+pub fn check<S: Source>(alloc: Global, source: &mut S) -> Result<Accepted, CheckError>
+    ensures answers { IfSome (S.left source.old) (λ bytes. Answers (checking bytes) (S.left source.new) result) }
+    ensures read_fault { IsErrOf result CheckError.ReadFault → Rose (S.faults source.old) (S.faults source.new) }
+    ensures later { S.faults source.old ≤ S.faults source.new }
+{
+    let mut reader = AnswerReader::new(source);
+    let head = reader.read_head(alloc)?;
+    let opening = opening_or_fault(&head)?;
+    let tally = read_marks(&head, opening, &mut reader)?;
+    reader.finish()?;
+    Ok(what_is_accepted(&head, &tally))
+}
+
+/// What an answer with this head and this tally says.
+fn what_is_accepted(head: &Head, tally: &Tally) -> Accepted
+    ensures { result ≡ accepted_of head.now tally.now }
+{
+    Accepted {
+        word: head.word,
+        best: best_in(head),
+        bound: head.bound,
+        nodes: tally.nodes,
+    }
+}
+
+/// Reads the lines after the head to the last one, and checks each.
+fn read_marks<S: Source>(
+    head: &Head,
+    opening: Option<i64>,
+    reader: &mut AnswerReader<'_, S>,
+) -> Result<Tally, CheckError>
+    requires { opening ≡ opening_cost head.now.instance }
+    ensures same { source_of reader.new ≡ source_of reader.old }
+    ensures reads { IfSome (coming S.left reader.old) (λ before. ReadsMarks head.now before (coming S.left reader.new) result) }
+    ensures read_fault { IsErrOf result CheckError.ReadFault → Rose (faults_of S.faults reader.old) (faults_of S.faults reader.new) }
+    ensures later { faults_of S.faults reader.old ≤ faults_of S.faults reader.new }
+{
+    let mut walk = Walk::begin(head.instance.root());
+    let mut tally = Tally::new();
+    for _ in 0..MORE_THAN_LINES {
+        match reader.next()? {
+            Item::Node(mark) => read_mark(
+                head,
+                opening,
+                &mut walk,
+                &mut tally,
+                mark,
+                reader.line(),
+            )?,
+            Item::End => {
+                read_end(head, &walk, &tally, reader.line())?;
+                return Ok(tally);
+            }
+        }
+    }
+    // Not reached where the source tells its bytes, since each line has one at least.
+    Err(CheckError::TooLong)
+}
+
+/// Checks a mark, and goes on past its square.
+fn read_mark(
+    head: &Head,
+    opening: Option<i64>,
+    walk: &mut Walk,
+    tally: &mut Tally,
+    mark: Mark,
+    line: u64,
+) -> Result<(), CheckFault>
+    requires opening { opening ≡ opening_cost head.now.instance }
+    requires few { tally.old.nodes < 2 ^ 40 }
+    ensures fault { result_err result ≡ node_fault head.now walk.old mark line }
+    ensures walk { OnOk result (walk.new ≡ stepped walk.old (marks.is_split mark)) }
+    ensures tally { OnOk result (tally.new ≡ joined tally.old (tally_of (mark ∷ []))) }
+{
+    let Some(square) = walk.coming() else {
+        return Err(plain(TREE_LONG, line));
+    };
+    if let Some(fault) = mark_fault(head, opening, square, mark, line) {
+        return Err(fault);
+    }
+    walk.step(is_split(mark));
+    tally.add(mark);
+    Ok(())
+}
+
+/// Whether a mark is that of a split square.
+fn is_split(mark: Mark) -> bool
+    ensures { result ≡ marks.is_split mark }
+{
+    match mark {
+        Mark::Split(_) => true,
+        Mark::Shut => false,
+        Mark::Bounded(_) => false,
+        Mark::Floor(_) => false,
+        Mark::Left(_) => false,
+    }
+}
+
+/// Checks the last line.
+fn read_end(head: &Head, walk: &Walk, tally: &Tally, line: u64) -> Result<(), CheckFault>
+    ensures { result_err result ≡ last_fault head.now walk.now tally.now line }
+{
+    if walk.coming().is_some() {
+        return Err(plain(TREE_SHORT, line));
+    }
+    match end_fault(head, tally, line) {
+        Some(fault) => Err(fault),
+        None => Ok(()),
+    }
+}

@@ -1,0 +1,28 @@
+//! The checker: whether a text is that of a valid answer, and which fault it has first where it isn't.
+#![tactic(auto)]
+
+mod checking;
+mod end;
+mod faults;
+mod head;
+mod laws;
+mod mark;
+#[cfg(test)]
+mod tests;
+mod walk;
+
+pub use certificate::Tally;
+pub use checking::{Accepted, check};
+pub use end::end_fault;
+pub use faults::{
+    BOUND_DIFFERS, COST_DIFFERS, CheckError, CheckFault, Differ, FORM, INSTANCE, LEAST_DIFFERS,
+    NOT_SHUT, SITE_OUTSIDE, SITE_WORSE, SPLIT_UNCALLED, TREE_LONG, TREE_SHORT, WRONG_COUNT,
+    WRONG_MARK, WRONG_WORD,
+};
+pub use head::head_fault;
+pub use laws::{
+    accepted_exactly_where_valid, ends_without_a_fault_fit, heads_without_a_fault_fit,
+    marks_without_a_fault_fit,
+};
+pub use mark::mark_fault;
+pub use walk::Walk;

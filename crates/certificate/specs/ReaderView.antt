@@ -1,0 +1,74 @@
+-- What contracts see of a reader of an answer: what is still to come of the answer, and what a call reads of it.
+use Rattle.std.specs.Prelude.{◌≡◌, ℕ, ◌-◌, List, [], ◌++◌, Option, Some, option_map, Result, Ok, Err, IsErrOf, ◌≤◌, ⊤}
+use Rattle.siting_definitions.specs.Answer.{Head}
+use Rattle.port_io.specs.Faults.{Rose}
+use Rattle.certificate.specs.declared.reader.AnswerReader.{AnswerReader}
+use Rattle.certificate.specs.declared.reader.AnswerError.{AnswerError}
+use Rattle.certificate.specs.declared.reader.AnswerError.TheVariants.{Form, Instance as BadInstance, TooLong, ReadFault, NoMemory}
+use Rattle.certificate.specs.Input.{input_of}
+use Rattle.certificate.specs.HeadReading.{answer_limit, Coming}
+
+-- what is still to come where this many bytes and lines were read, these bytes were read ahead, and these are left
+abbrev pub coming_after : ℕ → ℕ → List ℕ → List ℕ → Coming
+coming_after read line held left = record { input = input_of (answer_limit - read) (held ++ left); line = line }
+
+-- what is still to come of the answer, where the reader's source, with these members, tells its bytes
+abbrev pub coming : {S : Type 0} → (S → Option (List ℕ)) → AnswerReader S → Option Coming
+coming left reader = option_map (coming_after reader.place.read reader.place.line reader.held) (left reader.source.now)
+
+-- which `&mut` to a source the reader reads
+abbrev pub source_of : {S : Type 0} → AnswerReader S → ℕ
+source_of reader = reader.source.ghost_name
+
+-- the number of the last line read
+abbrev pub line_of : {S : Type 0} → AnswerReader S → ℕ
+line_of reader = reader.place.line
+
+-- how many bytes were read
+abbrev pub read_of : {S : Type 0} → AnswerReader S → ℕ
+read_of reader = reader.place.read
+
+-- the line that was kept
+abbrev pub text_of : {S : Type 0} → AnswerReader S → List ℕ
+text_of reader = reader.kept
+
+-- the source's count of faults
+abbrev pub faults_of : {S : Type 0} → (S → ℕ) → AnswerReader S → ℕ
+faults_of faults reader = faults reader.source.now
+
+-- the error is the one that was to be found; a source that fails and want of memory may come in its place
+abbrev pub FailsAs : {T : Type 0} → Result T AnswerError → AnswerError → Type 0
+FailsAs wanted (Form line) = wanted ≡ Err (Form line)
+FailsAs wanted BadInstance = wanted ≡ Err BadInstance
+FailsAs wanted TooLong = wanted ≡ Err TooLong
+FailsAs wanted ReadFault = ⊤
+FailsAs wanted NoMemory = ⊤
+
+-- what a call answers that had this to read: at `Ok` its value, with what comes after it still to come; at `Err` its error
+abbrev pub ReadsTo : {T : Type 0} → Result (T × Coming) AnswerError → Option Coming → Result T AnswerError → Type 0
+ReadsTo wanted after (Ok value) = (rest : Coming) × (wanted ≡ Ok (value, rest)) × (after ≡ Some rest)
+ReadsTo wanted after (Err error) = FailsAs wanted error
+
+-- the same of a call that also makes the reader
+abbrev pub BeginsAs : {S : Type 0} → (S → Option (List ℕ)) → Result (Head × Coming) AnswerError → Result (AnswerReader S × Head) AnswerError → Type 0
+BeginsAs left wanted (Ok begun) = (rest : Coming) × (wanted ≡ Ok (begun.1, rest)) × (coming left begun.0 ≡ Some rest)
+BeginsAs left wanted (Err error) = FailsAs wanted error
+
+-- the input ends here, with nothing left in the source, or has an error here
+abbrev pub EndsAs : Result ⊤ AnswerError → Option (List ℕ) → Result ⊤ AnswerError → Type 0
+EndsAs wanted left (Ok done) = (wanted ≡ Ok tt) × (left ≡ Some [])
+EndsAs wanted left (Err error) = FailsAs wanted error
+
+-- the count of faults of a source never falls, and a call answers that the source failed only where the count rose in it
+pub record Blames {T : Type 0} (before after : ℕ) (result : Result T AnswerError) : Type 0 where
+  pub later : before ≤ after
+  pub failed : IsErrOf result ReadFault → Rose before after
+
+-- no memory is wanted
+abbrev pub TakesNone : {T : Type 0} → Result T AnswerError → Type 0
+TakesNone (Ok value) = ⊤
+TakesNone (Err (Form line)) = ⊤
+TakesNone (Err BadInstance) = ⊤
+TakesNone (Err TooLong) = ⊤
+TakesNone (Err ReadFault) = ⊤
+TakesNone (Err NoMemory) = ⊥
