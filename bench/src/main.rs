@@ -2,6 +2,7 @@
 
 mod bounds;
 mod exclusion;
+mod largest;
 mod numbers;
 mod reading;
 mod roots;

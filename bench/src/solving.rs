@@ -1,5 +1,6 @@
 //! A whole solve of 4,096 made points, against the same search in ordinary Rust, and checks of answers.
 
+use crate::largest;
 use std::cmp::{Ordering, Reverse};
 use std::collections::BinaryHeap;
 use std::io::Write;
@@ -242,4 +243,8 @@ pub fn measure() {
     let nodes = large.lines().count() - 18;
     println!("one town, 1,000,000 leases, ms: solving, checking its answer of {} bytes with {nodes} squares", large.len());
     println!("  {time:.0}, {:.0}", time_of_check(&large));
+    let largest = largest::answer();
+    let nodes = largest.lines().count() - 17;
+    println!("checking an answer of {} bytes with {nodes} squares, ms", largest.len());
+    println!("  {:.0}", time_of_check(&largest));
 }

@@ -5,6 +5,12 @@ use crate::rows::SquareRow;
 use std::time::Instant;
 
 unsafe extern "C" {
+    fn bsss_bench_log(
+        squares: *const SquareRow,
+        count: usize,
+        logged: *mut SquareRow,
+        logged_count: usize,
+    ) -> bool;
     fn bsss_bench_preorder(
         squares: *const SquareRow,
         count: usize,
@@ -31,25 +37,45 @@ fn squares(splits: usize, numbers: &mut Numbers) -> Vec<SquareRow> {
     all
 }
 
-/// Prints the times, and sees that the corners come out in the order of the z curve.
+/// How many milliseconds this takes: the least of three times.
+fn time(mut run: impl FnMut()) -> f64 {
+    let timed = |_| {
+        let start = Instant::now();
+        run();
+        start.elapsed().as_secs_f64() * 1000.0
+    };
+    (0..3).map(timed).fold(f64::INFINITY, f64::min)
+}
+
+/// Prints the times, and sees that the squares come out in the order of the z curve, the larger first where two have one corner.
 pub fn measure() {
     let mut numbers = Numbers::new();
     let squares = squares(1_000_000, &mut numbers);
+    let count = squares.len();
     let mut sorted = squares.clone();
-    let start = Instant::now();
-    // SAFETY: each pointer goes with its length, and the call writes to `sorted` alone.
-    let done = unsafe { bsss_bench_preorder(squares.as_ptr(), squares.len(), sorted.as_mut_ptr(), sorted.len()) };
-    let our_time = start.elapsed().as_secs_f64() * 1000.0;
-    assert!(done, "memory, and rows that are squares");
-    assert_eq!((sorted[0].x, sorted[0].y, sorted[0].level), (0, 0, 37), "the root comes first");
+    // SAFETY: here and below each pointer goes with its length, and the call writes to `sorted` alone.
+    let log_time = time(|| assert!(unsafe { bsss_bench_log(squares.as_ptr(), count, sorted.as_mut_ptr(), count) }));
+    // SAFETY: as above.
+    let all_time =
+        time(|| assert!(unsafe { bsss_bench_preorder(squares.as_ptr(), count, sorted.as_mut_ptr(), count) }));
+    assert!(sorted.is_sorted_by_key(|row| (z_key(row), 37 - row.level)), "preorder");
     let keys: Vec<u64> = squares.iter().map(|_| numbers.next()).collect();
-    let start = Instant::now();
-    for _ in 0..3 {
-        let mut keys = keys.clone();
-        keys.sort_unstable();
-        std::hint::black_box(keys);
-    }
-    let their_time = start.elapsed().as_secs_f64() * 1000.0;
-    println!("{} nodes into preorder, ms: ours, with logging them; three sorts of as many keys", squares.len());
-    println!("  {our_time:.0}, {their_time:.0}");
+    let mut copy = keys.clone();
+    let copy_time = time(|| copy.copy_from_slice(&keys));
+    let stable_time = time(|| {
+        copy.copy_from_slice(&keys);
+        copy.sort();
+    });
+    let unstable_time = time(|| {
+        copy.copy_from_slice(&keys);
+        copy.sort_unstable();
+    });
+    println!("{count} nodes, ms: into preorder; three sorts of as many keys, stable, unstable");
+    let sorts = [stable_time, unstable_time].map(|sort_time| 3.0 * (sort_time - copy_time));
+    println!("  {:.0}; {:.0}, {:.0}", all_time - log_time, sorts[0], sorts[1]);
+}
+
+/// The bits of the corner, each bit of y above the bit of x of its place.
+fn z_key(row: &SquareRow) -> u128 {
+    (0..37).map(|i| ((row.x >> i & 1) as u128) << (2 * i) | ((row.y >> i & 1) as u128) << (2 * i + 1)).sum()
 }

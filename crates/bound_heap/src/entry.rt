@@ -1,4 +1,4 @@
-//! Entries.
+//! A square with its bound.
 
 use dyadic_square::Square;
 
@@ -7,8 +7,8 @@ use dyadic_square::Square;
 pub struct Entry {
     /// The square, in grid units.
     pub square: Square,
-    /// No point of the square costs less, in cost units.
+    /// In cost units. In a sound pool no point of the square costs less.
     pub bound: i64,
-    /// Whether the bound was raised to the fine bound.
+    /// Whether the bound was raised: in a sound pool it is then the square's fine bound.
     pub raised: bool,
 }

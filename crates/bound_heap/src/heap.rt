@@ -1,4 +1,4 @@
-//! The heap.
+//! The heap of the squares that wait.
 
 ghost use Rattle.std.specs.Prelude.{◌≡◌, ◌+◌, ◌<◌, ◌≤ℤ◌, ◌↔◌, [], ◌∷◌, length, All, IfNone, IfOk, IfSome, IsPermutation, IsSome};
 ghost use Rattle.bound_heap.specs.declared.entry.Entry as entries;
@@ -9,7 +9,7 @@ use std::alloc::Global;
 use std::collections::BinaryHeap;
 use std::marker::Model;
 
-/// There was not enough memory.
+/// Memory ran out for the room of a heap.
 #[derive(Clone, Copy, Debug, PartialEq, Eq)]
 pub struct NoMemory;
 
@@ -35,7 +35,7 @@ impl Model for Heap {
 }
 
 impl Heap {
-    /// An empty heap with room for `room` entries, whose memory is taken at once. `NoMemory` where there is not enough.
+    /// An empty heap with room for `room` entries, whose memory is taken at once. `NoMemory` where memory ran out.
     pub fn with_room(alloc: Global, room: usize) -> Result<Heap, NoMemory>
         ensures { IfOk result (λ heap. heap ≡ record { entries = []; spare = room }) }
     {
@@ -59,7 +59,7 @@ impl Heap {
         self.room - self.heap.len()
     }
 
-    /// Adds an entry, which takes one entry's room. It can't fail.
+    /// Adds an entry, which takes one entry's room: there has to be some. It can't fail.
     pub fn push(&mut self, entry: Entry)
         requires { 0 < self.old.spare }
         ensures entries { IsPermutation (entry ∷ self.old.entries) self.new.entries }

@@ -11,7 +11,6 @@ use std::cmp::Ordering;
 /// An entry, ranked by its bound alone: the lesser the bound, the higher the rank.
 #[derive(Clone, Copy, Drop)]
 pub struct Ranked {
-    /// The entry.
     pub entry: Entry,
 }
 

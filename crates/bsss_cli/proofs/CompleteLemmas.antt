@@ -1,15 +1,10 @@
 -- What comes where the outside has no fault: the other statuses are ruled out by their conditions on the bytes.
-use Rattle.std.proofs.Common.{◌≡◌, ℕ, ◌≤◌, List, Option, None, Some, Result, Ok, Err, refl, sym, ap, subst, ◌∙◌, ◌⊎◌, inl, inr, Bool, true, false, cond, arith}
-use Rattle.std.proofs.lemmas.Bool.{true≢false}
-use Rattle.std.specs.Prelude.{⊤, IfSome, length}
+use Rattle.std.proofs.Common.{◌≡◌, ℕ, ◌≤◌, List, Option, None, Some, Result, Ok, Err, refl, ap, subst, ◌∙◌, ◌⊎◌, inl, inr, Bool, true, cond, arith}
+use Rattle.std.specs.Prelude.{length}
 use Rattle.port_io.specs.Output.{SinkView}
 use Rattle.siting_definitions.specs.Instance.{Instance}
-use Rattle.siting_definitions.specs.Answer.{Answer, IsValid}
-use Rattle.siting_definitions.specs.AnswerText.{answer_text}
-use Rattle.instance_text.specs.declared.faults.InstanceFault.{InstanceFault}
 use Rattle.instance_text.specs.Reading.{reading}
 use Rattle.cert_checker.specs.declared.checking.Accepted.{Accepted as Said}
-use Rattle.cert_checker.specs.declared.faults.CheckError.{CheckError}
 use Rattle.cert_checker.specs.Checking.{checking}
 use Rattle.cert_checker.proofs.ValidLemmas.{valid-accepted}
 use Rattle.bsss_cli.specs.declared.words.Settings.{Settings}

@@ -1,16 +1,14 @@
 -- The gap asked is at most 2 ^ 62: the opening is a vertex, so its cost isn't greater.
-use Rattle.std.proofs.Common.{◌≡◌, ℕ, ◌+◌, ◌*◌, ◌/◌, ◌^◌, ◌≤◌, ℤ, pos, negsuc, zero, suc, ◌+ℤ◌, ◌-ℤ◌, ◌*ℤ◌, ◌≤ℤ◌, Bool, true, false, cond, List, [], ◌∷◌, ◌++◌, get_or, map, filter, fold, Option, None, Some, refl, sym, subst, ap, arith}
+use Rattle.std.proofs.Common.{◌≡◌, ℕ, ◌+◌, ◌*◌, ◌^◌, ◌≤◌, ℤ, pos, negsuc, zero, suc, ◌+ℤ◌, ◌-ℤ◌, ◌*ℤ◌, Bool, true, false, cond, List, [], ◌∷◌, ◌++◌, get_or, map, fold, Option, None, Some, sym, subst, ap, arith}
 use Rattle.std.proofs.Math.Nat.{mul-le-mul_left, mul-le-mul_right, mul-le-mul}
 use Rattle.std.proofs.lemmas.Int.{clamps, unsigned_abs-mul}
 use Rattle.std.proofs.lemmas.List.Sums.{sum_by-cons}
-use Rattle.std.proofs.lemmas.List.Elements.{All-tail, All-cons, All-nil, All-append, All-map, All-filter, All-weaker}
-use Rattle.std.specs.Prelude.{⊤, All, unsigned_abs, MatchOption, IsTrue, int_le, option_map}
+use Rattle.std.proofs.lemmas.List.Elements.{All-tail, All-nil, All-append, All-map, All-filter, All-weaker}
+use Rattle.std.specs.Prelude.{⊤, All, unsigned_abs, MatchOption, int_le, option_map}
 use Rattle.std.specs.Int.{int_max}
 use borrow.Author.Differences.{ints}
 use Rattle.siting_definitions.specs.declared.Kind.{Kind}
 use Rattle.siting_definitions.specs.declared.Kind.TheVariants.{Sum, Max}
-use Rattle.siting_definitions.specs.declared.GapRule.{GapRule}
-use Rattle.siting_definitions.specs.declared.GapRule.TheVariants.{Fixed, Ppm}
 use Rattle.siting_definitions.specs.Integer.{round_up}
 use Rattle.siting_definitions.specs.Root.{floor_root, ceil_root}
 use Rattle.siting_definitions.specs.Point.{Place, Pt, grid, point_of}
@@ -18,8 +16,7 @@ use Rattle.siting_definitions.specs.Instance.{DemandPt, Instance, IsInstance, Is
 use Rattle.siting_definitions.specs.Permitted.{permits}
 use Rattle.siting_definitions.specs.Cost.{distance2, terms, total, total_of}
 use Rattle.siting_definitions.specs.Bounds.{capped, upper_radius, upper_of}
-use Rattle.siting_definitions.specs.Sites.{vertices, cheaper, cheapest, candidates, opening_of, opening_cost, gap_of}
-use Rattle.bsss_cli.specs.Words.{IsGapRule}
+use Rattle.siting_definitions.specs.Sites.{vertices, cheaper, cheapest, candidates, opening_of, opening_cost}
 use Rattle.root_enclosure.proofs.RootLemmas.{ceil_root-le-pow, floor_root-le-ceil_root}
 
 -- ---- a total is no greater in size than its terms together
@@ -115,14 +112,6 @@ pub cheapest-all : (P : Pt → Type 0) (cost : Pt → ℤ) (zs : List Pt) → Al
 cheapest-all P cost [] h = tt
 cheapest-all P cost (z ∷ zs) h = cheaper_either P cost z (cheapest cost zs) (h 0 z (omega arith)) (cheapest-all P cost zs (All-tail P z zs h))
 
-kept_passes : (test : Pt → Bool) (z : Pt) (zs : List Pt) (b : Bool) → test z ≡ b → All (λ z. IsTrue (test z)) zs → All (λ z. IsTrue (test z)) (cond b (z ∷ zs) zs)
-kept_passes test z zs true e h = All-cons (λ z. IsTrue (test z)) z zs e h
-kept_passes test z zs false e h = h
-
-filter-passes : (test : Pt → Bool) (zs : List Pt) → All (λ z. IsTrue (test z)) (filter test zs)
-filter-passes test [] = All-nil (λ z. IsTrue (test z))
-filter-passes test (z ∷ zs) = kept_passes test z (filter test zs) (test z) refl (filter-passes test zs)
-
 vertices-all : (P : Place → Type 0) (vss : List (List Place)) → All (All P) vss → All P (vertices vss)
 vertices-all P [] h = All-nil P
 vertices-all P (vs ∷ vss) h = All-append P vs (vertices vss) (h 0 vs (omega arith)) (vertices-all P vss (All-tail (All P) vs vss h))
@@ -144,12 +133,6 @@ opening-near i lawful =
     (All-append IsPlace (vertices i.permitted) (vertices i.forbidden) (vertices-all IsPlace i.permitted (polygon_places i.permitted lawful.permitted))
     (vertices-all IsPlace i.forbidden (polygon_places i.forbidden lawful.forbidden))))))
 
-pub opening-permitted : (i : Instance) → MatchOption (opening_of i) ⊤ (λ z. IsTrue (permits i (point_of z)))
-unfolding opening_of
-opening-permitted i =
-    cheapest-all (λ z. IsTrue (permits i (point_of z))) (upper_of i) (candidates i)
-    (filter-passes (λ z. permits i (point_of z)) (map grid (vertices i.permitted ++ vertices i.forbidden)))
-
 -- ---- the gap
 pub opening_cost-small : (i : Instance) → IsInstance i → MatchOption (opening_cost i) ⊤ (λ u. unsigned_abs u ≤ 2 ^ 62)
 opening_cost-small i lawful = of_option (opening_of i) (opening-near i lawful)
@@ -157,18 +140,6 @@ opening_cost-small i lawful = of_option (opening_of i) (opening-near i lawful)
     of_option : (o : Option Pt) → MatchOption o ⊤ IsNearSite → MatchOption (option_map (upper_of i) o) ⊤ (λ u. unsigned_abs u ≤ 2 ^ 62)
     of_option None h = tt
     of_option (Some z) h = near_cost i z lawful h
-
-pub record IsGap (gap : ℤ) : Type 0 where
-  pub least : (pos 0) ≤ℤ gap
-  pub most : gap ≤ℤ pos (2 ^ 62)
-
-share_small : (u ppm : ℕ) → u ≤ 2 ^ 62 → ppm ≤ 1000000 → u * ppm / 1000000 ≤ 2 ^ 62
-share_small u ppm h k = let e : u * ppm ≤ 2 ^ 62 * 1000000 = mul-le-mul h k in omega (arith, e)
-
-pub gap_of-small : (rule : GapRule) (o : Option ℤ) → IsGapRule rule → MatchOption o ⊤ (λ u. unsigned_abs u ≤ 2 ^ 62) → IsGap (gap_of rule o)
-gap_of-small (Fixed gap) o h k = record { least = h.0; most = h.1 }
-gap_of-small (Ppm ppm) None h k = record { least = omega (arith, ints); most = omega (arith, ints) }
-gap_of-small (Ppm ppm) (Some u) h k = record { least = omega (arith, ints); most = omega (arith, ints, share_small (unsigned_abs u) ppm k h) }
 
 -- an opening with its cost is as small as that cost
 pub upper-small : (o : Option (Pt × ℤ)) (c : Option ℤ) → option_map (λ (b : Pt × ℤ). b.1) o ≡ c → MatchOption c ⊤ (λ u. unsigned_abs u ≤ 2 ^ 62) → MatchOption o ⊤ (λ b. unsigned_abs b.1 ≤ 2 ^ 62)

@@ -3,3 +3,4 @@ pub mod GapLemmas
 pub mod SolveLemmas
 pub mod CheckLemmas
 pub mod CompleteLemmas
+mod WordLemmas

@@ -1,15 +1,11 @@
 -- What a search ends with is an answer to its instance.
-use Rattle.std.proofs.Common.{◌≡◌, ℕ, ◌≤◌, ◌==◌, ℤ, List, Option, None, Some, Ok, refl, sym, ap, subst, true, cond, arith}
+use Rattle.std.proofs.Common.{◌≡◌, ℕ, ◌≤◌, ℤ, List, Option, None, Some, Ok, refl, sym, subst, true, cond, arith}
 use Rattle.std.proofs.lemmas.Bool.{eqb-true, false_from_ne_true}
-use Rattle.std.specs.Prelude.{⊤, length, IsTrue, MatchOption, option_map, unwrap_or}
-use borrow.Author.Differences.{ints}
+use Rattle.std.specs.Prelude.{length, IsTrue}
 use Rattle.siting_definitions.specs.Point.{Pt, Point}
 use Rattle.siting_definitions.specs.Instance.{Instance, IsInstance}
 use Rattle.siting_definitions.specs.Permitted.{permits}
 use Rattle.siting_definitions.specs.Excluded.{is_excluded}
-use Rattle.siting_definitions.specs.Bounds.{upper_of}
-use Rattle.siting_definitions.specs.Sites.{opening_of, opening_cost}
-use Rattle.siting_definitions.specs.Marks.{IsAtMost}
 use Rattle.siting_definitions.specs.Answer.{Head, Answer, IsWorkedBy}
 use Rattle.siting_definitions.specs.AnswerText.{answer_text}
 use Rattle.instance_text.specs.Reading.{reading}
@@ -21,12 +17,11 @@ use Rattle.site_model.proofs.Rooted.{root_holds}
 use Rattle.certificate.proofs.ClaimsLemmas.{IsBounded, IsUnderstood, claims}
 use Rattle.pool_core.specs.declared.stop.Stop.{Stop}
 use Rattle.pool_core.specs.declared.stop.Stop.TheVariants.{PoolFull as FullStop, Budget as BudgetStop}
-use Rattle.pool_core.specs.Job.{cost_in}
 use Rattle.pool_core.specs.State.{State}
 use Rattle.site_workers.specs.Ending.{Finishes, IsKeptBy, KeptBy, answer_of, is_full}
 use Rattle.bsss_cli.specs.declared.words.Settings.{Settings}
 use Rattle.bsss_cli.specs.Texts.{instance_limit}
-use Rattle.bsss_cli.specs.Jobs.{job_to, opening_offer}
+use Rattle.bsss_cli.specs.Jobs.{job_to}
 use Rattle.bsss_cli.specs.Outcome.{is_built, IsAnswerTo, Solves}
 
 bounded : (i : Instance) → IsInstance i → (p : Point) → IsTrue (permits i p) → IsBounded i p
@@ -42,35 +37,6 @@ understood i lawful = record {
   lower = lower_of-bounds i;
   upper = upper_of-bounds i;
 }
-
--- the start of a job that begins at the opening
-pub opening-most : (i : Instance) → MatchOption (opening_cost i) ⊤ (IsAtMost (cost_in (opening_offer i)))
-opening-most i = most (opening_of i)
-  where
-    most : (z : Option Pt) → MatchOption (option_map (upper_of i) z) ⊤ (IsAtMost (cost_in (option_map (λ (z : Pt). (z, upper_of i z)) z)))
-    most None = tt
-    most (Some z) = omega (arith, ints)
-
--- what a call that gives an opening says of it
-priced : Instance → Pt → Pt × ℤ
-priced i z = (z, upper_of i z)
-
-some≢none : {X : Type 0} (x : X) → Some x ≡ None → ⊥
-some≢none x e = grind (arith)
-
-priced_is : (i : Instance) (b : Pt × ℤ) (z : Pt) → b.0 ≡ z → b.1 ≡ upper_of i z → b ≡ priced i z
-unfolding priced
-priced_is i (a, u) z e f = rw (e, f) refl
-
-pub opening-offers : (i : Instance) (o : Option (Pt × ℤ)) → option_map (λ (b : Pt × ℤ). b.0) o ≡ opening_of i → option_map (λ (b : Pt × ℤ). b.1) o ≡ opening_cost i → o ≡ opening_offer i
-unfolding priced
-opening-offers i o site cost = offers o (opening_of i) site cost
-  where
-    offers : (o : Option (Pt × ℤ)) (z : Option Pt) → option_map (λ (b : Pt × ℤ). b.0) o ≡ z → option_map (λ (b : Pt × ℤ). b.1) o ≡ option_map (upper_of i) z → o ≡ option_map (priced i) z
-    offers None None site cost = refl
-    offers None (Some z) site cost = absurd (some≢none z (sym site))
-    offers (Some b) None site cost = absurd (some≢none b.0 site)
-    offers (Some b) (Some z) site cost = ap (λ (c : Pt × ℤ). Some c) (priced_is i b z (ap (λ (o : Option Pt). unwrap_or o z) site) (ap (λ (o : Option ℤ). unwrap_or o b.1) cost))
 
 -- the kept parts of one worker
 kept-by_one : (kept : ℕ) (stop : Option Stop) (s : State) → s.kept ≡ kept → s.stop ≡ stop → kept ≡ cond (is_full stop) 1 0 → KeptBy s 1 stop

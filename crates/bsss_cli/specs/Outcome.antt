@@ -50,7 +50,7 @@ abbrev pub OfBytes : Option (List ℕ) → (List ℕ → Type 0) → Type 0
 OfBytes None P = (bytes : List ℕ) × P bytes
 OfBytes (Some bytes) P = P bytes
 
--- What a solve may answer, and the text that it writes then: each status exactly where its condition on the bytes holds.
+-- What a solve may answer, and the text that it writes then: each status only where its condition on the bytes holds; no two hold at once.
 abbrev pub SolveAnswers : Settings → Option (List ℕ) → Status → List ℕ → Type 0
 SolveAnswers s told Solved text = OfBytes told (λ bytes. Solves s bytes words.Solved text)
 SolveAnswers s told PoolFull text = OfBytes told (λ bytes. Solves s bytes words.PoolFull text)
@@ -70,7 +70,7 @@ pub record IsAccepted (bytes : List ℕ) : Type 0 where
   pub valid : IsValid answer
   pub claims : Claims answer.head
 
--- What a check may answer, and the text that it writes then: each status exactly where its condition on the bytes holds.
+-- What a check may answer, and the text that it writes then: each status only where its condition on the bytes holds; no two hold at once.
 abbrev pub CheckAnswers : Option (List ℕ) → Status → List ℕ → Type 0
 CheckAnswers told Accepted text = (text ≡ accepted) × IfSome told IsAccepted
 CheckAnswers told (Rejected fault) text = (text ≡ rejected fault) × IfSome told (λ bytes. checking bytes ≡ Err (errors.Fault fault))
@@ -99,14 +99,14 @@ pub record Finished (command : Option Command) (told : Option (List ℕ)) (befor
   pub answers : Answers command told status text
   pub took : Took before.room before.taken after.taken text
 
--- the sink took a front of the text of what the run was to answer
+-- the sink took a prefix of the text of what the run was to answer
 pub record CutShort (command : Option Command) (told : Option (List ℕ)) (before after : SinkView) : Type 0 where
   pub status : Status
   pub text : List ℕ
   pub answers : Answers command told status text
   pub took : TookFront before.room before.taken after.taken text
 
--- What the sink took, by the status: nothing after a fault of reading and after want of memory, a front of a text after a
+-- What the sink took, by the status: nothing after a fault of reading and after want of memory, a prefix of a text after a
 -- fault of writing, and else the whole text of the answer.
 abbrev pub Writes : Option Command → Option (List ℕ) → SinkView → SinkView → Status → Type 0
 Writes command told before after ReadFault = after.taken ≡ before.taken

@@ -1,6 +1,8 @@
 //! The program: its words, its top call, and what it writes.
 #![tactic(auto)]
 
+#[cfg(test)]
+mod changed_answers;
 mod gap;
 mod laws;
 mod output;
@@ -12,7 +14,7 @@ mod tests;
 mod words;
 
 pub use gap::gap_of;
-pub use laws::a_valid_answer_claims;
+pub use laws::{a_valid_answer_claims, words_in_any_order};
 pub use run::run_alone;
 pub use siting_definitions::GapRule;
 pub use status::Status;

@@ -43,6 +43,7 @@ fn job_of(instance: Instance, settings: Settings) -> Job
     ensures lawful { IsLawful result }
     ensures limits { IsInstance instance }
 {
+    // Shows that the instance is within the limits.
     let _points = instance.points();
     let start = opening(&instance);
     let gap = gap_of(settings.gap, same(&start));

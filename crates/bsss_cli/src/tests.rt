@@ -42,7 +42,7 @@ fn sink_of(alloc: Global, chunk: usize, fails: u64) -> Result<MemSink, Fail>
 }
 
 /// The code with which a run ends, and what it writes.
-fn run(alloc: Global, line: &str, input: &str) -> Result<(u8, MemSink), Fail> {
+pub(super) fn run(alloc: Global, line: &str, input: &str) -> Result<(u8, MemSink), Fail> {
     let words = words_of(alloc, line)?;
     let mut source = source_of(alloc, input, 0)?;
     let mut sink = sink_of(alloc, 64, 0)?;

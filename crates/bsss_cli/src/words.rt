@@ -1,6 +1,6 @@
 //! The words of the command line.
 
-ghost use Rattle.std.specs.Prelude.{◌≡◌, ◌==◌, ◌^◌, ◌-◌, ◌<◌, ◌≤◌, ◌++◌, [], ◌∷◌, ℕ, List, length, map, drop, OnOk, OnErr, IfSome, IfNone, string_bytes, slice_index_or, Option, option_map, option_and_then, filter_map, MatchOption, Some, None};
+ghost use Rattle.std.specs.Prelude.{◌≡◌, ◌==◌, ◌^◌, ◌-◌, ◌<◌, ◌≤◌, ◌++◌, [], ◌∷◌, ℕ, List, length, map, drop, OnOk, OnErr, IfSome, IfNone, slice_index_or, Option, option_map, option_and_then, filter_map, Some, None};
 ghost use Rattle.siting_definitions.specs.declared.GapRule.TheVariants.{Fixed, Ppm};
 ghost use Rattle.text_lines.specs.Numbers.{digits_of};
 ghost use Rattle.bsss_cli.specs.Words as said;

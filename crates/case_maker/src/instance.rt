@@ -11,7 +11,7 @@ use std::alloc::Global;
 
 /// The instance that a seed of at most 2,147,483,647 makes, with 1 to 4,096 demand points: their coordinates are 0 to
 /// 98,301 lengths and their weights 1 to 1,000. The square from (0, 0) to (100000, 100000) is permitted, and the one from
-/// (40000, 40000) to (60000, 60000) forbidden.
+/// (40000, 40000) to (60000, 60000) forbidden, in lengths. `NoMemory` where memory ran out.
 #[tactic(auto, unfolding(crate::specs::Made::made))]
 pub fn make_instance(alloc: Global, seed: u32, points: u32) -> Result<Instance, NoMemory>
     requires seed { seed ≤ 2147483647 }

@@ -1,8 +1,8 @@
-//! Want of memory.
+//! The error for want of memory.
 
 use std::alloc::AllocError;
 
-/// No memory was found.
+/// Memory ran out for an instance.
 #[derive(Clone, Copy, Debug, PartialEq, Eq)]
 pub struct NoMemory;
 

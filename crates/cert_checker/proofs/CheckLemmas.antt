@@ -30,10 +30,6 @@ read_fails r more TextTooLong said = ap (λ (x : Result _ AnswerError). read_ok 
 read_fails r more TextReadFault said = tt
 read_fails r more TextNoMemory said = tt
 
--- what is to come, where the bytes are told
-told_start : (bytes : List ℕ) (told : Option (List ℕ)) (start : Option Coming) → told ≡ Some bytes → start ≡ option_map coming_of told → start ≡ Some (coming_of bytes)
-told_start bytes told start e is = is ∙ ap (λ (o : Option (List ℕ)). option_map coming_of o) e
-
 -- the head wasn't read
 pub no_head : (told : Option (List ℕ)) (start : Option Coming) (left : Option (List ℕ)) (e : AnswerError) → start ≡ option_map coming_of told → IfSome start (λ before. TextFailsAs (head_reading before) e) → (result : Result Accepted CheckError) → IsErrAnd result (λ x. x ≡ error_of e) → IfSome told (λ bytes. Answers (checking bytes) left result)
 unfolding checking

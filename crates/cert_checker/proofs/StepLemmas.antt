@@ -1,5 +1,5 @@
 -- The lines after the head, read one after another.
-use Rattle.std.proofs.Common.{◌≡◌, ℕ, zero, suc, ◌+◌, ◌-◌, ◌^◌, ◌<◌, ◌≤◌, List, [], ◌∷◌, ◌++◌, length, Option, None, Some, Result, Ok, Err, IfSome, refl, sym, ap, ◌∙◌, subst, arith}
+use Rattle.std.proofs.Common.{◌≡◌, ℕ, zero, suc, ◌+◌, ◌-◌, ◌^◌, ◌≤◌, List, [], ◌∷◌, ◌++◌, length, Option, None, Some, Result, Ok, Err, IfSome, refl, sym, ap, ◌∙◌, subst, arith}
 use Rattle.std.specs.Prelude.{option_map, ◌==◌, cond, Bool, true, false}
 use Rattle.std.specs.Result.{IsErrAnd}
 use Rattle.siting_definitions.specs.declared.Mark.{Mark}
@@ -7,7 +7,6 @@ use Rattle.siting_definitions.specs.Square.{Square}
 use Rattle.siting_definitions.specs.Sites.{root_of}
 use Rattle.siting_definitions.specs.Marks.{Tally, is_split, tally_of}
 use Rattle.siting_definitions.specs.Answer.{Head}
-use Rattle.port_io.specs.Faults.{Rose}
 use Rattle.instance_text.specs.Reading.{and_then}
 use Rattle.certificate.specs.declared.reader.AnswerError.{AnswerError}
 use Rattle.certificate.specs.declared.reader.AnswerError.TheVariants.{Form, Instance as BadInstance, TooLong as TextTooLong, ReadFault as TextReadFault, NoMemory as TextNoMemory}
@@ -20,7 +19,7 @@ use Rattle.certificate.specs.ReaderView.{coming_after, FailsAs as TextFailsAs, R
 use Rattle.certificate.specs.Tallies.{joined}
 use Rattle.cert_checker.specs.declared.faults.CheckFault.{CheckFault}
 use Rattle.cert_checker.specs.declared.faults.CheckError.{CheckError}
-use Rattle.cert_checker.specs.declared.faults.CheckError.TheVariants.{Fault, TooLong}
+use Rattle.cert_checker.specs.declared.faults.CheckError.TheVariants.{Fault}
 use Rattle.cert_checker.specs.declared.checking.Accepted.{Accepted}
 use Rattle.cert_checker.specs.Checking.{error_of, unless_fault, read_ok, accepted_of, at_end, at_mark, at_item, items_of}
 use Rattle.cert_checker.specs.Walking.{stepped}
@@ -179,25 +178,12 @@ halfway_last_fault h (Some before) now after later squares t turns line fault ha
     let next : Result Accepted CheckError = read_ok (end_of read.0) (λ _. Ok (accepted_of h t)) in
     failed h before later (Fault fault) result is (half.same ∙ (end_is h squares t half.rest read.0 read.1 ∙ ap (λ (o : Option CheckFault). unless_fault o next) faulty))
 
-pub halfway_ends : (h : Head) (start now after : Option Coming) (squares : List Square) (t : Tally) (turns line : ℕ) → Halfway h start now squares t turns → IfSome now (λ before. ReadsTo (formed item_form before) after (Ok End)) → IfSome after (λ (r : Coming). r.line ≡ line) → None ≡ last_fault h squares t line → IfSome start (λ before. ReadsMarks h before after (Ok t))
-halfway_ends h None now after squares t turns line half reads at none = tt
-halfway_ends h (Some before) now after squares t turns line half reads at none =
-    let read = at_rest (λ r. ReadsTo (formed item_form r) after (Ok End)) now half.rest half.told reads in
-    let here : read.0.line ≡ line = at_rest (λ (r : Coming). r.line ≡ line) after read.0 read.2 at in
-    let clean : last_fault h squares t read.0.line ≡ None = ap (λ n. last_fault h squares t n) here ∙ sym none in
-    let next : Result Accepted CheckError = read_ok (end_of read.0) (λ _. Ok (accepted_of h t)) in
-    (read.0, half.same ∙ (end_is h squares t half.rest read.0 read.1 ∙ ap (λ (o : Option CheckFault). unless_fault o next) clean), read.2)
-
 pub halfway_fails : (h : Head) (start now later : Option Coming) (squares : List Square) (t : Tally) (turns : ℕ) (e : AnswerError) → Halfway h start now squares t turns → IfSome now (λ before. TextFailsAs (formed item_form before) e) → (result : Result Tally CheckError) → IsErrAnd result (λ x. x ≡ error_of e) → IfSome start (λ before. ReadsMarks h before later result)
 halfway_fails h None now later squares t turns e half reads result is = tt
 halfway_fails h (Some before) now later squares t turns e half reads result is =
     failed h before later (error_of e) result is
     (subst (λ (wanted : Result Accepted CheckError). FailsAs wanted (error_of e)) (sym half.same)
     (fails h squares t half.rest e (at_rest (λ r. TextFailsAs (formed item_form r) e) now half.rest half.told reads)))
-
-pub halfway_never : (h : Head) (start now later : Option Coming) (squares : List Square) (t : Tally) (turns : ℕ) → Halfway h start now squares t turns → 2 ^ 30 < turns → IfSome start (λ before. ReadsMarks h before later (Err TooLong))
-halfway_never h None now later squares t turns half many = tt
-halfway_never h (Some before) now later squares t turns half many = absurd (let few = half.few in omega arith)
 
 pub no-nodes : (t : Tally) → t ≡ tally_of [] → t.nodes ≤ 0
 unfolding tally_of
@@ -206,7 +192,3 @@ no-nodes t e = omega (arith, ap (λ (k : Tally). k.nodes) e)
 pub one-node : (t t' : Tally) (m : Mark) → t' ≡ joined t (tally_of (m ∷ [])) → t'.nodes ≡ t.nodes + 1
 unfolding tally_of
 one-node t t' m e = ap (λ (k : Tally). k.nodes) e
-
--- ---- faults of the source
-pub rose_later : (a b c : ℕ) → a ≤ b → Rose b c → Rose a c
-rose_later a b c le rose apart = let more = rose apart in omega (arith, le, more)

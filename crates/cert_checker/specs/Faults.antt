@@ -62,7 +62,7 @@ abbrev pub is_below : Option ℤ → ℤ → Bool
 is_below None v = false
 is_below (Some n) v = int_lt n v
 
--- whether the cut of a square wasn't called for after `seen` was seen, with u the upper cost of the answer
+-- whether the split of a square wasn't called for after `seen` was seen, with u the upper cost of the answer
 abbrev pub is_uncalled : Instance → ℤ → Option ℤ → Square → Option ℤ → Bool
 is_uncalled i gap u s None = s.level == 0 || (is_some (opening_cost i) || is_some (centre_cost i s))
 is_uncalled i gap u s (Some v) =

@@ -83,7 +83,7 @@ fn open_fits(head: &Head, tally: &Tally) -> bool
     }
 }
 
-/// Whether so many open squares fill the pool, so that there was no room for a cut, and are no more than the leaves.
+/// Whether so many open squares fill the pool, so that there was no room for a split, and are no more than the leaves.
 fn is_full(open_count: u32, pool: u32, leaves: u64) -> bool
     ensures { result ≡ (nat_le 1 open_count && (nat_le open_count pool && (nat_lt pool (open_count + 3) && nat_le open_count leaves))) }
 {

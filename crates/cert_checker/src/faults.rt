@@ -26,7 +26,7 @@ pub const NOT_SHUT: u8 = 7;
 pub const BOUND_DIFFERS: u8 = 8;
 /// A mark isn't the right one.
 pub const WRONG_MARK: u8 = 9;
-/// A cut wasn't called for.
+/// A split wasn't called for.
 pub const SPLIT_UNCALLED: u8 = 10;
 /// The bound isn't the least of the leaves.
 pub const LEAST_DIFFERS: u8 = 11;

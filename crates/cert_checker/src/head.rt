@@ -1,6 +1,6 @@
 //! The faults of a head that is of its form.
 
-ghost use Rattle.std.specs.Prelude.{◌≡◌, ◌≤◌, ℤ, IfOk, option_map};
+ghost use Rattle.std.specs.Prelude.{◌≡◌, ◌≤◌, IfOk, option_map};
 ghost use Rattle.std.specs.Result.{result_err};
 ghost use Rattle.siting_definitions.specs.Answer as answers;
 ghost use Rattle.siting_definitions.specs.Answer.{upper_cost};

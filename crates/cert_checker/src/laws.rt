@@ -15,7 +15,7 @@ pub fn heads_without_a_fault_fit()
     ensures { (h : Head) → (head_fault_of h ≡ None) ↔ HeadFits h }
 {}
 
-/// A mark has no fault exactly where it is a cut that was called for, or the finished mark of a leaf.
+/// A mark has no fault exactly where it is a split that was called for, or the finished mark of a leaf.
 pub fn marks_without_a_fault_fit()
     ensures { (h : Head) (s : Square) (m : Mark) (line : ℕ)
         → (mark_fault_of h s m line ≡ None) ↔ MarkFits h.instance h.gap (upper_cost h.best) (record { square = s; is_split = is_split m }) m }

@@ -22,7 +22,7 @@ use site_model::Instance;
 use siting_definitions::Mark;
 
 /// The first fault of the mark of a square, in this line: a mark other than X of a square that is excluded or an X of one that
-/// isn't, a cut that wasn't called for, a bound other than the square's fine bound, or a letter that isn't the right one for it.
+/// isn't, a split that wasn't called for, a bound other than the square's fine bound, or a letter that isn't the right one for it.
 /// None exactly where there is none. `opening` is the upper cost of the instance's opening, in cost units, if there is one.
 #[tactic(auto, unfolding(crate::specs::Faults::mark_fault_of))]
 pub fn mark_fault(
@@ -54,7 +54,7 @@ fn fault_of_shut(head: &Head, sq: Square, line: u64) -> Option<CheckFault>
     Some(plain(NOT_SHUT, line))
 }
 
-/// The first fault of a cut.
+/// The first fault of a split.
 fn fault_of_split(
     head: &Head,
     opening: Option<i64>,
@@ -74,7 +74,7 @@ fn fault_of_split(
     None
 }
 
-/// Whether a cut wasn't called for after `seen` was seen.
+/// Whether a split wasn't called for after `seen` was seen.
 fn is_uncalled(head: &Head, opening: Option<i64>, sq: Square, seen: Option<i64>) -> bool
     requires { opening ≡ opening_cost head.now.instance }
     ensures { result ≡ faults.is_uncalled head.now.instance head.now.gap (upper_cost head.now.best) sq seen }

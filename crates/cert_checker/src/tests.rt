@@ -23,7 +23,7 @@ const ONE_SQUARE: &[u8] =
 const ONE_WRONG_BOUND: &[u8] =
     b"siting answer 1\nsiting 1\nkind sum\npoint 0 0 1\npermit 3 4 9 4 3 10\nend\ngap 0\nbudget 100000\npool 100000\nsite 196608 262144\ncost 327680 327680\nbound 327680\nanswer solved\nopen 0\nleases 1\nroot 196608 262144 19\nB 327681\nend\n";
 
-/// An answer whose root is cut.
+/// An answer whose root is split.
 const FIVE_SQUARES: &[u8] =
     b"siting answer 1\nsiting 1\nkind sum\npoint 2 2 1\npermit 0 0 4 0 4 4 0 4\nend\ngap 185\nbudget 1\npool 100000\nsite 0 0\ncost 185363 185364\nbound 0\nanswer budget\nopen 0\nleases 1\nroot 0 0 19\nS 185364\nO 0\nO 131072\nO 131072\nB 185363\nend\n";
 

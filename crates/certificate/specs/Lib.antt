@@ -11,3 +11,4 @@ pub mod ReaderView
 pub mod ReadSoFar
 pub mod Feeds
 pub mod LineReading
+pub mod Beginnings

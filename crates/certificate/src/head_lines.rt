@@ -1,6 +1,6 @@
 //! Reading the lines of a head, one after another.
 
-ghost use Rattle.std.specs.Prelude.{◌≡◌, ◌≤◌, ◌≤ℤ◌, ◌^◌, length, IfOk, IfSome};
+ghost use Rattle.std.specs.Prelude.{◌≡◌, ◌≤◌, ◌≤ℤ◌, length, IfOk, IfSome};
 ghost use Rattle.certificate.specs.Forms as forms;
 ghost use Rattle.certificate.specs.HeadReading.{formed, limits_part, best_part, outcome_part, head_from, lines_after as after_instance, head_reading};
 ghost use Rattle.certificate.specs.ReaderView.{coming, source_of, faults_of, ReadsTo, Blames, TakesNone};

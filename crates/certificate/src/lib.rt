@@ -1,6 +1,7 @@
 //! The text of an answer: writing it to a sink, and reading it from a source in any pieces.
 #![tactic(auto)]
 
+mod beginning;
 mod forms;
 mod head;
 mod head_lines;

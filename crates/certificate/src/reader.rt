@@ -2,12 +2,11 @@
 
 ghost use Rattle.std.specs.Prelude.{◌≡◌, ◌==◌, ◌+◌, ◌-◌, ◌<◌, ◌≤◌, cond, true, false, [], length, Some, Err, IsOk, IfOk, OnErr, IfSome, ok_or, option_map};
 ghost use Rattle.certificate.specs.Forms.{item_form as form_of_item};
-ghost use Rattle.certificate.specs.HeadReading.{answer_limit, coming_of, formed, head_reading, end_of};
+ghost use Rattle.certificate.specs.HeadReading.{answer_limit, coming_of, formed, end_of};
 ghost use Rattle.certificate.specs.LineReading.{past_line, IsEnd, FrontRead, PieceRead, LineRead};
-ghost use Rattle.certificate.specs.ReaderView.{coming, coming_after, source_of, faults_of, line_of, text_of, read_of, ReadsTo, BeginsAs, EndsAs, Blames, TakesNone};
+ghost use Rattle.certificate.specs.ReaderView.{coming, coming_after, source_of, faults_of, line_of, text_of, read_of, ReadsTo, EndsAs, Blames, TakesNone};
 
 use crate::forms::item_form;
-use crate::head::Head;
 use crate::held::{Held, Kept};
 use crate::place::Place;
 use port_io::Source;
@@ -54,10 +53,10 @@ pub enum AnswerError {
 /// called. Reading the head alone takes memory. No call may follow one that failed.
 #[derive(Drop)]
 pub struct AnswerReader<'a, S: Source> {
-    source: &'a mut S,
-    held: Held,
-    kept: Kept,
-    place: Place,
+    pub(crate) source: &'a mut S,
+    pub(crate) held: Held,
+    pub(crate) kept: Kept,
+    pub(crate) place: Place,
 }
 
 impl<'a, S: Source> AnswerReader<'a, S> {
@@ -72,26 +71,6 @@ impl<'a, S: Source> AnswerReader<'a, S> {
             held: Held::new(),
             kept: Kept::new(),
             place: Place::new(),
-        }
-    }
-
-    /// The reader of the text that the source gives, with its head read, to the line of its root.
-    ///
-    /// It is `new` and then `read_head`. After an error nothing is known of the source, since the reader that held it is gone; a
-    /// caller that needs to know it calls the two.
-    pub fn begin(
-        alloc: Global,
-        source: &'a mut S,
-    ) -> Result<(AnswerReader<'a, S>, Head), AnswerError>
-        ensures same { IfOk result (λ begun. source_of begun.0 ≡ source.entry.ghost_name) }
-        ensures later { IfOk result (λ begun. S.faults source.old ≤ faults_of S.faults begun.0) }
-        ensures reads { IfSome (S.left source.old)
-            (λ bytes. BeginsAs S.left (head_reading (coming_of bytes)) result) }
-    {
-        let mut reader = AnswerReader::new(source);
-        match reader.read_head(alloc) {
-            Ok(head) => Ok((reader, head)),
-            Err(error) => Err(error),
         }
     }
 

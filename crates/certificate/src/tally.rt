@@ -13,9 +13,9 @@ use std::marker::Model;
 pub struct Tally {
     /// How many marks there are, one for each square of the tree.
     pub nodes: u64,
-    /// How many squares were cut.
+    /// How many squares were split.
     pub splits: u64,
-    /// How many squares were not cut.
+    /// How many squares were not split.
     pub leaves: u64,
     /// How many of the leaves were left open above level 0.
     pub open_leaves: u64,

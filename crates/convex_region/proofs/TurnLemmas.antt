@@ -178,9 +178,6 @@ AllLeft-more vs d some all turns i j k ij jk within =
     (to_new vs (d - 2) (d - 1) d i j (omega arith) (omega arith) all turns.before turns.last turns.first ij (omega arith)))
     (cases_lt k d)
 
-pub AllLeft-first : (vs : List Place) → AllLeft vs 2
-AllLeft-first vs i j k ij jk within = absurd (omega arith)
-
 -- ---- a list in which all turn to the left is convex
 beside_inner : (vs : List Place) (n i j : ℕ) → length vs ≤ n → AllLeft vs n → i + 1 < length vs → j < length vs → j ≢ i → j ≢ i + 1 → TurnsAt vs i (i + 1) j
 beside_inner vs n i j whole all inner within not_start not_end =

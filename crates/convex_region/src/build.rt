@@ -21,7 +21,7 @@ pub enum PolygonFault {
     TooFewVertices,
     /// More than 64 places.
     TooManyVertices,
-    /// No memory was found.
+    /// Memory ran out for the corners.
     NoMemory,
     /// Vertex `vertex`, which is no end of edge `edge`, doesn't lie strictly to its left: the first such pair, in order
     /// of edge and then vertex, of the list after turning.
@@ -35,6 +35,9 @@ pub enum PolygonFault {
 
 impl Polygon {
     /// The polygon with these corners, turned to be counter-clockwise: the first corner stays first.
+    ///
+    /// `TooFewVertices` exactly for fewer than 3 corners, `TooManyVertices` exactly for more than 64. Of the others `NotConvex`
+    /// only where the turned list isn't convex, and `NoMemory` where memory ran out.
     pub fn build(alloc: Global, corners: &[Place]) -> Result<Polygon, PolygonFault>
         ensures { Builds corners.now result }
     {

@@ -86,6 +86,7 @@ mod tests {
         for (i, corner) in want.iter().enumerate() {
             assert!(rt; i < square.len());
             assert_eq!(rt; square.vertex(i), *corner);
+            assert_eq!(rt; square.edge(i), (*corner, want[(i + 1) % 4]));
         }
         assert_eq!(rt;
             square.bounds(),

@@ -1,4 +1,4 @@
-//! Polygons.
+//! A polygon, and which points it holds.
 
 ghost use Rattle.std.specs.Prelude.{◌≡◌, ◌<◌, length};
 ghost use Rattle.siting_definitions.specs.Point.{point_of};
@@ -59,6 +59,16 @@ impl Polygon {
         ensures { result ≡ vertex self.now i }
     {
         self.corners[i]
+    }
+
+    /// The ends of edge `i`: vertex `i`, and the vertex after it. The last edge ends at vertex 0.
+    pub fn edge(&self, i: usize) -> (Place, Place)
+        requires { i < length self.now }
+        ensures start { result.0 ≡ vertex self.now i }
+        ensures end { result.1 ≡ vertex self.now (polygons.next_of (length self.now) i) }
+    {
+        let next = next_of(self.corners.len(), i);
+        (self.corners[i], self.corners[next])
     }
 
     /// The bounding box, in grid units.

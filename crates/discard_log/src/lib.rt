@@ -3,6 +3,7 @@
 
 mod log;
 mod node;
+mod sort;
 
 pub use log::{Log, NoMemory, NodeList};
 pub use node::Node;

@@ -46,9 +46,6 @@ length-SameTotals xs ys s = sym (total-length xs) ∙ s (λ _. 1) ∙ total-leng
 pub SameTotals-rest : {X : Type 0} (x : X) (xs ys : List X) → SameTotals (x ∷ xs) (x ∷ ys) → SameTotals xs ys
 SameTotals-rest x xs ys s f = let e : f x + total f xs ≡ f x + total f ys = s f in omega arith
 
-pub SameTotals-cons : {X : Type 0} (x : X) (xs ys : List X) → SameTotals xs ys → SameTotals (x ∷ xs) (x ∷ ys)
-SameTotals-cons x xs ys s f = ap (λ n. f x + n) (s f)
-
 -- an element of which some stand in a list stands at some index
 pub found : {X : Type 0} (p : X → Bool) → (xs : List X) → 0 < total (λ x. once (p x)) xs → (i : ℕ) × (i < length xs) × ((d : X) → p (get_or xs i d) ≡ true)
 found p [] h = absurd (omega arith)

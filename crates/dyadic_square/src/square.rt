@@ -1,4 +1,4 @@
-//! Squares.
+//! A square, its parts, and its place in the order of a tree.
 
 ghost use Rattle.std.specs.Prelude.{◌≡◌, ℕ, ◌-◌, ◌^◌, ◌<◌, ◌≤◌, pos, ◌≤ℤ◌, ◌&&◌, int_le, int_lt};
 ghost use Rattle.siting_definitions.specs.Point.{point_of};
@@ -100,7 +100,7 @@ impl Square {
         is_between(self.x, p.x, self.x + side) && is_between(self.y, p.y, self.y + side)
     }
 
-    /// Quarter `i`, numbered as the corners.
+    /// Quarter `i`, numbered as the corners. The level has to be above 0.
     pub fn quarter(self, i: u8) -> Square
         requires level { 0 < self.level }
         requires number { i < 4 }
@@ -114,7 +114,7 @@ impl Square {
         )
     }
 
-    /// The centre.
+    /// The centre, half the side to the right of the corner and above it. The level has to be above 0.
     pub fn centre(self) -> Pt
         requires { 0 < self.level }
         ensures { result ≡ centre_of self }

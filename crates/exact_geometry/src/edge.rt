@@ -39,7 +39,7 @@ fn product(a: i64, b: i64) -> i64
 }
 
 /// The side of `p` on the edge from `a` to `b`, in lengths times grid units: above 0 to the left of the edge,
-/// 0 on its line, below 0 to the right. It is `(bx - ax)(py - 65536 ay) - (by - ay)(px - 65536 ax)`.
+/// 0 on its line, below 0 to the right. It is `(bx - ax)(py - 65536 ay) - (by - ay)(px - 65536 ax)`, below 2^62 in size.
 pub fn side(a: Place, b: Place, p: Pt) -> i128
     ensures value { result ≡ points.side a b (point_of p) }
     ensures size { unsigned_abs result < 2 ^ 62 }

@@ -72,20 +72,8 @@ fn is_right_of_edge(polygon: &Polygon, i: usize, sq: Square) -> bool
     requires { i < length polygon.now }
     ensures { result ≡ tests.is_right_of (polygons.vertex polygon.now i) (polygons.vertex polygon.now (polygons.next_of (length polygon.now) i)) sq }
 {
-    is_right_of(
-        polygon.vertex(i),
-        polygon.vertex(next_of(polygon.len(), i)),
-        sq,
-    )
-}
-
-/// The index of the vertex after vertex `i` of `count`.
-fn next_of(count: usize, i: usize) -> usize
-    requires { i < count }
-    ensures value { result ≡ polygons.next_of count i }
-    ensures within { result < count }
-{
-    if i + 1 == count { 0 } else { i + 1 }
+    let (a, b) = polygon.edge(i);
+    is_right_of(a, b, sq)
 }
 
 /// Whether the closed square lies strictly to the right of the edge from `a` to `b`.

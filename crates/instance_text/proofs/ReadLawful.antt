@@ -51,9 +51,6 @@ IsCutoff-above_zero (Value z) size = positive (int_le (pos 1) z) (λ above. (gri
   positive false h = tt
 
 -- ---- points
-zero_is : (w : ℤ) → w ≡ pos 0 → eqb (unsigned_abs w) 0 ≡ true
-zero_is w is = rw is refl
-
 IsDemandPt-point_of : (x y w : Within) (cutoff : Option ℤ) (d : DemandPt) → HasSize 1000000 x → HasSize 1000000 y → HasSize 16000000 w → MatchOption cutoff ⊤ (λ c. (pos 1 ≤ℤ c) × (c ≤ℤ pos 4000000)) → point_of x y w cutoff ≡ Ok d → IsDemandPt d
 IsDemandPt-point_of (Value x) (Value y) (Value w) cutoff d size_x size_y size_w cut is =
     let made = refused (eqb (unsigned_abs w) 0) (Ok (record { x = x; y = y; w = w; cutoff = cutoff })) 5 d is in

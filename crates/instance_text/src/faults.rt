@@ -19,7 +19,7 @@ pub enum InstanceError {
     #[error("bad instance {} line {}", .0.number, .0.line)]
     Fault(InstanceFault),
     /// Memory ran out.
-    #[error("no memory")]
+    #[error("out of memory")]
     NoMemory,
 }
 

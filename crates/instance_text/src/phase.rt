@@ -1,3 +1,5 @@
+//! How far a reader has come.
+
 use site_model::Kind;
 
 /// How far the lines of an instance text were read.

@@ -1,3 +1,5 @@
+//! Texts, their first faults, and their canonical texts.
+
 use super::*;
 use port_io::{Out, SureSink};
 use std::alloc::Global;

@@ -11,7 +11,8 @@ use exact_geometry::Place;
 use port_io::{Out, Piece, Sink, WriteFault};
 use site_model::{DemandPt, Instance, Kind};
 
-/// Puts the canonical text of an instance, which reads back as that instance.
+/// Puts the canonical text of an instance, which reads back as that instance, to an output on which no call failed.
+/// `WriteFault` only where the sink's count of faults rose in this call: the sink then took a front of what was put.
 pub fn write_instance<K: Sink>(instance: &Instance, out: &mut Out<K>) -> Result<(), WriteFault>
     requires { IsOpen out.old }
     ensures same { sink_of out.new ≡ sink_of out.old }
@@ -40,6 +41,7 @@ fn write_front<K: Sink>(instance: &Instance, out: &mut Out<K>) -> Result<(), Wri
     ])
 }
 
+/// The word of a kind.
 fn kind_word(kind: Kind) -> &'static [u8]
     ensures { result.now ≡ kind_field kind }
 {

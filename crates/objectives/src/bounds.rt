@@ -16,6 +16,7 @@ use dyadic_square::Square;
 use site_model::{DemandPt, Instance, Kind};
 
 /// The coarse bound of a square, in cost units: no point of the closed square costs less. It takes whole roots in grid units.
+/// It is at most 7,712 * 10^15 in size, so below 2^63.
 pub fn coarse(instance: &Instance, sq: Square) -> i64
     ensures value { result ≡ coarse_of instance.now sq }
     ensures bound { (p : Point) → holds_closed sq p ≡ true → CostAtLeast instance.now p result }
@@ -25,7 +26,7 @@ pub fn coarse(instance: &Instance, sq: Square) -> i64
 }
 
 /// The fine bound of a square, in cost units: no point of the closed square costs less. It takes roots in units of 1/65536 of
-/// a grid unit.
+/// a grid unit. It is at most 7,712 * 10^15 in size, so below 2^63.
 pub fn fine(instance: &Instance, sq: Square) -> i64
     ensures value { result ≡ fine_of instance.now sq }
     ensures bound { (p : Point) → holds_closed sq p ≡ true → CostAtLeast instance.now p result }

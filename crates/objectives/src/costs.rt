@@ -14,7 +14,8 @@ use crate::rounding::{rounded_down, rounded_up};
 use crate::total::{MaxTotal, SumTotal, Total};
 use site_model::{DemandPt, Instance, Kind, Site};
 
-/// The lower and the upper cost of a site, in cost units, which enclose its cost.
+/// The lower and the upper cost of a site, in cost units, which enclose its cost. Each is at most 7,712 * 10^15 in size, so
+/// below 2^63.
 pub fn cost_of(instance: &Instance, site: Site) -> (i64, i64)
     ensures lower { result.0 ≡ lower_of instance.now site }
     ensures upper { result.1 ≡ upper_of instance.now site }

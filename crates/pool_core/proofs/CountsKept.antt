@@ -94,10 +94,6 @@ made_says : (some : Bool) (pool n : ℕ) → (some || nat_lt pool n) ≡ false �
 made_says true pool n h = absurd (true≢false h)
 made_says false pool n h = (refl, grind (arith, nat_tests))
 
-none_is : (o : Option Stop) → is_some o ≡ false → o ≡ None
-none_is None h = refl
-none_is (Some s) h = absurd (true≢false h)
-
 first_stop-some : (o : Option Stop) (s : Stop) → first_stop o s ≡ None → ⊥
 first_stop-some None s h = cc
 first_stop-some (Some t) s h = cc
@@ -320,9 +316,6 @@ pub size_lease : (e : Entry) (before after : State) → Leases e before after �
 size_lease e before after h size =
     let m = leaves_waiting e before after h in
     omega arith
-
-pub size_halt : (before after : State) → Halts before after → SizeFits before → SizeFits after
-size_halt before after h size = rw h.halted size
 
 size_node : (e : Entry) (n : Node) (before after : State) → is_split n.mark ≡ false → Moves e [] (n ∷ []) 0 before after → SizeFits before → SizeFits after
 size_node e n before after leaf m size =

@@ -83,11 +83,6 @@ seen-falls : (j : Job) (u seen : Option ℤ) (z : ℤ) → IsSeen j u seen → I
 seen-falls j u None z seen h = absurd h
 seen-falls j u (Some v) z seen h = at_most-more u v z h seen.0
 
--- what was a number of the incumbent stays one where the incumbent falls
-pub seen-still : (j : Job) (u v seen : Option ℤ) → Falls u v → IsSeen j u seen → IsSeen j v seen
-seen-still j u v None falls h = h
-seen-still j u v (Some n) falls h = (falls n h.0, h.1)
-
 -- ---- what a finding adds
 one_node : (j : Job) (u : Option ℤ) (s : Square) (m : Mark) → LoggedFits j.instance j.gap u s m → All (NodeFits j.instance j.gap u) (record { square = s; mark = m } ∷ [])
 one_node j u s m h =

@@ -5,8 +5,7 @@ use Rattle.std.proofs.lemmas.Bool.{cond_both}
 use Rattle.std.proofs.lemmas.Int.{ints, clamps}
 use Rattle.siting_definitions.specs.Point.{Pt}
 use Rattle.siting_definitions.specs.Instance.{Instance}
-use Rattle.siting_definitions.specs.Marks.{IsAtMost, IsNoneOrAtLeast, lesser}
-use Rattle.siting_definitions.proofs.Integers.{le_trans_ℤ}
+use Rattle.siting_definitions.specs.Marks.{IsAtMost, lesser}
 use Rattle.discard_log.specs.declared.node.Node.{Node}
 use Rattle.bound_heap.specs.declared.entry.Entry.{Entry}
 use Rattle.pool_core.specs.Job.{Job, IsLawful, IsOffer, start_cost}
@@ -147,14 +146,6 @@ sound-falls s u v falls offered sound = record {
   start = start_falls (start_cost s.job) u v falls sound.start;
   least_is = offered;
 }
-
-falls_to : (u : Option ℤ) (v : ℤ) → IsNoneOrAtLeast u v → Falls u (Some v)
-falls_to None v le z h = absurd h
-falls_to (Some n) v le z h = le_trans_ℤ v n z le h
-
--- the upper cost of a site that is offered, where it is no more than the least so far
-pub less_least : (w : Search) (u : ℤ) (z : Pt) → IsSound w → IsOffer w.pool.job.instance z u → IsNoneOrAtLeast w.least u → IsSound (record w { least = Some u })
-less_least w u z sound offer le = sound-falls w.pool w.least (Some u) (falls_to w.least u le) (z, offer) sound
 
 lesser_falls : (u : Option ℤ) (v : ℤ) → Falls u (lesser u (Some v))
 lesser_falls None v z h = absurd h

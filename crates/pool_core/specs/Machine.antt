@@ -77,7 +77,7 @@ abbrev pub IsSeen : Job → Option ℤ → Option ℤ → Type 0
 IsSeen j u None = j.start ≡ None
 IsSeen j u (Some v) = IsAtMost u v × IsNoneOrAtLeast (start_cost j) v
 
--- What may be seen when an entry comes back with a finding: a number of the incumbent, and where the square is to be cut and has
+-- What may be seen when an entry comes back with a finding: a number of the incumbent, and where the square is to be split and has
 -- a centre site, one that is at most the upper cost of that site.
 pub record MayReturn (e : Entry) (seen : Option ℤ) (w : Search) : Type 0 where
   pub seen_is : IsSeen w.pool.job w.least seen

@@ -7,7 +7,7 @@ use Rattle.discard_log.specs.declared.node.Node.{Node}
 use Rattle.discard_log.specs.Nodes.{tree_square}
 use Rattle.bound_heap.specs.declared.entry.Entry.{Entry}
 use Rattle.pool_core.specs.declared.stop.Stop.{Stop}
-use Rattle.pool_core.specs.Job.{Job, job_root, start_cost}
+use Rattle.pool_core.specs.Job.{Job, job_root}
 
 -- what a state was made with: its nodes, how many raised squares waited, and how many leases had been given
 pub record Beginning : Type 0 where
@@ -68,6 +68,3 @@ first_state j =
       stop = None;
       beginning = record { nodes = []; raised = 0; leases = 0 };
     }
-
-abbrev pub first_search : Job → Search
-first_search j = record { pool = first_state j; least = start_cost j }

@@ -12,7 +12,7 @@ use Rattle.pool_core.specs.declared.verdict.Finding.TheVariants.{Excluded, Bound
 use Rattle.pool_core.specs.Job.{Job}
 
 -- The finding on a square whose bound wasn't raised, where c is at most its fine bound, and less by less than the weight W:
--- the gap settles it, or not even a fine bound would settle it and it is to be cut, or its fine bound is to decide.
+-- the gap settles it, or not even a fine bound would settle it and it is to be split, or its fine bound is to decide.
 abbrev pub finding_of_coarse : Job → Square → ℤ → Option ℤ → Finding
 finding_of_coarse j s c seen =
     cond (reaches seen (c +ℤ j.gap)) (Bounded c)

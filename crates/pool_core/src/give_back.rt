@@ -24,7 +24,7 @@ pub enum Given {
     Logged,
     /// It waits again, with its fine bound.
     Raised,
-    /// It was cut, and its quarters wait.
+    /// It was split, and its quarters wait.
     Parted,
     /// It waits again as it was, since there was a stop or no room for three more open squares, which is a stop from now on.
     Kept,
@@ -80,7 +80,7 @@ impl Pool {
     }
 }
 
-/// Whether nothing more is cut: there is a stop, or so many squares are open that there is no room for three more.
+/// Whether nothing more is split: there is a stop, or so many squares are open that there is no room for three more.
 fn is_closed(stop: Option<Stop>, job: &Job, count: u32) -> bool
     requires { count ≤ job.now.pool }
     ensures { result ≡ (is_some stop || nat_lt job.now.pool (count + 3)) }

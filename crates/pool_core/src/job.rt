@@ -1,4 +1,4 @@
-//! Jobs.
+//! What a search is asked for.
 
 ghost use Rattle.std.specs.Prelude.{◌≡◌};
 ghost use Rattle.pool_core.specs.Job as jobs;
@@ -6,12 +6,13 @@ ghost use Rattle.pool_core.specs.Job.{IsJob};
 
 use dyadic_square::Square;
 use site_model::{Instance, Site};
+use std::alloc::AllocError;
 use std::marker::Model;
 
 /// An instance, and the settings of the search over it.
 #[derive(Drop)]
 pub struct Job {
-    /// The instance.
+    /// The instance whose best site is sought.
     pub instance: Instance,
     /// The gap asked, in cost units, 0 to 2^62: a square is settled where its bound and the gap reach the least upper cost.
     pub gap: i64,
@@ -34,6 +35,23 @@ impl Model for Job {
     ghost view = { λ a. record { instance = a.instance; gap = a.gap; budget = a.budget; pool = a.pool; start = a.start } };
 
     ghost invariant = { λ a. JobFits (record { instance = a.instance; gap = a.gap; budget = a.budget; pool = a.pool; start = a.start }) a.root };
+}
+
+/// A copy is the same job. It takes memory, so it may fail.
+impl Clone for Job {
+    ghost is_clone = { λ job copy. copy ≡ job };
+
+    fn clone(&self) -> Result<Job, AllocError> {
+        let instance = self.instance.clone()?;
+        Ok(Job {
+            instance,
+            gap: self.gap,
+            budget: self.budget,
+            pool: self.pool,
+            root: self.root,
+            start: self.start,
+        })
+    }
 }
 
 impl Job {

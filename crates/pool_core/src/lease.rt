@@ -1,4 +1,4 @@
-//! Leases.
+//! Leasing a square.
 
 ghost use Rattle.std.specs.Prelude.{◌≡◌, ◌==◌, ◌<◌, ◌≤◌, ◌++◌, ◌∷◌, [], vec_len, vec_capacity};
 ghost use Rattle.pool_core.specs.Answers.{LeaseAnswers};
@@ -25,21 +25,21 @@ impl Model for Lease {
 }
 
 impl Lease {
-    /// The square.
+    /// The square that is leased, in grid units.
     pub fn square(&self) -> Square
         ensures { result ≡ self.now.square }
     {
         self.entry.square
     }
 
-    /// No point of the square costs less, in cost units.
+    /// The bound of the square, in cost units. In a sound pool no point of the square costs less.
     pub fn bound(&self) -> i64
         ensures { result ≡ self.now.bound }
     {
         self.entry.bound
     }
 
-    /// Whether the bound is the square's fine bound, to which it was raised.
+    /// Whether the bound was raised: in a sound pool it is then the square's fine bound.
     pub fn raised(&self) -> bool
         ensures { result ≡ self.now.raised }
     {

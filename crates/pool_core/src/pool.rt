@@ -1,4 +1,4 @@
-//! The pool.
+//! The pool, from its beginning to the nodes that it ends with.
 
 ghost use Rattle.std.specs.Prelude.{◌≡◌, ◌+◌, ◌≤◌, ◌++◌, [], map, filter, true, length, vec_capacity, All, IfOk, IsPermutation};
 ghost use Rattle.siting_definitions.specs.Tree.{Tree, Fits, preorder};
@@ -15,12 +15,18 @@ use bound_heap::{Entry, Heap};
 use discard_log::{Log, Mark, Node, NodeList};
 use dyadic_square::Square;
 use objectives::coarse;
-use std::alloc::Global;
+use std::alloc::{AllocError, Global};
 use std::marker::Model;
 
-/// No memory was found.
+/// Memory ran out for a pool.
 #[derive(Clone, Copy, Debug, PartialEq, Eq)]
 pub struct NoMemory;
+
+impl From<AllocError> for NoMemory {
+    fn from(_: AllocError) -> NoMemory {
+        NoMemory
+    }
+}
 
 impl From<bound_heap::NoMemory> for NoMemory {
     fn from(_: bound_heap::NoMemory) -> NoMemory {
@@ -67,7 +73,7 @@ impl Model for Pool {
 
 impl Pool {
     /// The pool in which the root of the job waits with its coarse bound. It takes room for as many entries as may be open, and for
-    /// the nodes of as many cuts as leases may be given; `NoMemory` where there is not enough.
+    /// the nodes of as many splits as leases may be given; `NoMemory` where memory ran out.
     pub fn begin(alloc: Global, job: &Job) -> Result<Pool, NoMemory>
         ensures { IfOk result (λ pool. pool ≡ first_state job.now) }
     {
@@ -76,7 +82,7 @@ impl Pool {
         let mut waiting = Heap::with_room(alloc, job.pool as usize)?;
         let leased = room_for(alloc, job.pool)?;
         let log = Log::with_room(alloc, 4 * job.budget as usize + 1)?;
-        let job = copy_of(job)?;
+        let job = job.clone()?;
         waiting.push(Entry {
             square: root,
             bound,
@@ -97,7 +103,7 @@ impl Pool {
     }
 
     /// The pool in which the squares of a finished tree that were left open wait, after this many leases. The nodes are in preorder, with the
-    /// finished marks for the start's cost. It takes room as `begin` does; `NoMemory` where there is not enough.
+    /// finished marks for the start's cost. It takes room as `begin` does; `NoMemory` where memory ran out.
     pub fn begin_from(
         alloc: Global,
         job: &Job,
@@ -112,7 +118,7 @@ impl Pool {
         let mut waiting = Heap::with_room(alloc, job.pool as usize)?;
         let leased = room_for(alloc, job.pool)?;
         let mut log = Log::with_room(alloc, count + 4 * (job.budget - leases) as usize)?;
-        let job = copy_of(job)?;
+        let job = job.clone()?;
         sort_out(nodes, &mut waiting, &mut log);
         let open = waiting.len();
         Ok(Pool {
@@ -163,23 +169,6 @@ impl Pool {
         log_waiting(waiting, &mut log);
         log.in_preorder(root)
     }
-}
-
-/// A copy of a job.
-fn copy_of(job: &Job) -> Result<Job, NoMemory>
-    ensures { IfOk result (λ copy. copy ≡ job.now) }
-{
-    let Ok(instance) = job.instance.clone() else {
-        return Err(NoMemory);
-    };
-    Ok(Job {
-        instance,
-        gap: job.gap,
-        budget: job.budget,
-        pool: job.pool,
-        root: job.root,
-        start: job.start,
-    })
 }
 
 /// The starting square of a job.

@@ -146,7 +146,7 @@ fn is_none_or_at_least(number: Option<i64>, seen: i64) -> bool
     }
 }
 
-/// Checks that a cut was called for, after `seen` was seen.
+/// Checks that a split was called for, after `seen` was seen.
 fn check_split(rt: &impl Abort, job: &Job, square: Square, seen: i64)
     ensures { IsCalledFor job.now.instance job.now.gap (start_cost job.now) square (Some seen) }
 {

@@ -1,6 +1,6 @@
 //! The verdict on a leased square.
 
-ghost use Rattle.std.specs.Prelude.{◌≡◌, nat_lt, pos, ◌+ℤ◌, ◌-ℤ◌, int_le, ◌&&◌, not};
+ghost use Rattle.std.specs.Prelude.{◌≡◌, ◌^◌, nat_lt, pos, ◌+ℤ◌, ◌-ℤ◌, ◌≤ℤ◌, ◌&&◌, not};
 ghost use Rattle.siting_definitions.specs.Instance.{weight};
 ghost use Rattle.siting_definitions.specs.Marks as marks;
 ghost use Rattle.pool_core.specs.Verdict.{finding_of, finding_of_coarse, finding_of_fine};
@@ -11,7 +11,8 @@ use dyadic_square::Square;
 use exclusion::excluded;
 use objectives::{coarse, fine, reaches};
 
-/// What is found of a leased square. Each number is a lower bound on it, in cost units.
+/// What is found of a leased square. Each number is a bound, in cost units: where the pool is sound, no point of the square
+/// costs less.
 #[derive(Clone, Copy, Debug, PartialEq, Eq)]
 pub enum Finding {
     /// No point of it is permitted.
@@ -20,18 +21,18 @@ pub enum Finding {
     Bounded(i64),
     /// Its fine bound is to decide: the square waits again with it.
     Raise(i64),
-    /// It is to be cut into its quarters, which wait with this bound.
+    /// It is to be split into its quarters, which wait with this bound.
     Part(i64),
     /// It has level 0, and the gap doesn't settle its fine bound.
     Floor(i64),
 }
 
-/// A finding, and the number of the incumbent, in cost units, that was seen for it, if there was one.
+/// A finding, and what was seen of the incumbent for it.
 #[derive(Clone, Copy, Debug, PartialEq, Eq)]
 pub struct Verdict {
-    /// The number that was seen.
+    /// The number of the incumbent that was seen, in cost units, if there was one.
     pub seen: Option<i64>,
-    /// What was found.
+    /// What was found with it.
     pub finding: Finding,
 }
 
@@ -79,7 +80,7 @@ fn judge_coarse(job: &Job, square: Square, bound: i64, seen: Option<i64>) -> Fin
     }
 }
 
-/// Whether a square is to be cut before its fine bound is known: it can be cut, and no fine bound would settle it.
+/// Whether a square is to be split before its fine bound is known: it can be split, and no fine bound would settle it.
 fn is_for_parting(job: &Job, square: Square, bound: i64, seen: Option<i64>) -> bool
     ensures { result ≡ (nat_lt 0 square.level
         && not (marks.reaches seen (((bound +ℤ pos (weight job.now.instance.points)) -ℤ pos 1) +ℤ job.now.gap))) }
@@ -89,17 +90,11 @@ fn is_for_parting(job: &Job, square: Square, bound: i64, seen: Option<i64>) -> b
 
 /// Whether there is a least upper cost, and it is at most the sum of a bound, a weight less 1, and the gap, all in cost units.
 fn reaches_beyond(least: Option<i64>, bound: i64, weight: i64, gap: i64) -> bool
+    requires weight_least { pos 0 ≤ℤ weight }
+    requires weight_most { weight ≤ℤ pos 16000000 }
+    requires gap_least { pos 0 ≤ℤ gap }
+    requires gap_most { gap ≤ℤ pos (2 ^ 62) }
     ensures { result ≡ marks.reaches least (((bound +ℤ weight) -ℤ pos 1) +ℤ gap) }
 {
-    match least {
-        None => false,
-        Some(upper) => is_at_most(upper, bound, weight, gap),
-    }
-}
-
-/// Whether a cost is at most the sum of a bound, a weight less 1, and the gap, all in cost units.
-fn is_at_most(upper: i64, bound: i64, weight: i64, gap: i64) -> bool
-    ensures { result ≡ int_le upper (((bound +ℤ weight) -ℤ pos 1) +ℤ gap) }
-{
-    upper as i128 <= bound as i128 + weight as i128 - 1 + gap as i128
+    reaches(least, bound, weight - 1 + gap)
 }

@@ -1,5 +1,5 @@
 -- Calls on an `Out`, one after another, and the end of an output.
-use Rattle.std.proofs.Common.{◌≡◌, ℕ, ◌+◌, ◌<◌, false, List, [], ◌++◌, length, take, drop, get_or, Option, Result, Ok, Err, refl, sym, ap, subst, ◌∙◌, arith, append_assoc, length-append}
+use Rattle.std.proofs.Common.{◌≡◌, ℕ, ◌+◌, ◌<◌, false, List, [], ◌++◌, length, take, drop, get_or, Option, Result, Ok, Err, sym, ap, subst, ◌∙◌, arith, append_assoc, length-append}
 use Rattle.std.specs.Prelude.{IsErr}
 use Rattle.std.specs.List.{flat_map}
 use Rattle.std.proofs.lemmas.List.{append-nil, take-append-le, take_more, flat_map_more, take-append-drop}
@@ -39,16 +39,6 @@ TookFront-longer {x = x} y p = record {
   count = p.count;
   within = rw length-append (omega (arith, p.within));
   took = let h = p.within in rw (take-append-le p.count x y h) p.took;
-}
-
--- nothing was put
-pub Put-none : {T E : Type 0} {v : T} (a : Stage) → Took a.sink.room a.sink.taken a.sink.taken [] → a.failed ≡ false → Put {E = E} a a [] (Ok v)
-Put-none a nothing open_ = record {
-  ok = record { sent = []; parts = append-nil a.waiting; took = nothing };
-  err = tt;
-  failed = open_;
-  room = refl;
-  cause = record { later = omega arith; failed = tt };
 }
 
 -- bytes were kept behind those that waited

@@ -1,9 +1,7 @@
 -- Bytes that a sink took one after another.
-use Rattle.std.proofs.Common.{◌≡◌, ℕ, ◌+◌, ◌-◌, ◌≤◌, List, ◌++◌, length, take, drop, Option, None, Some, Bool, true, false, cond, leb, refl, sym, ap, ◌∙◌, arith, append_assoc, length-append, Result, Ok, Err}
-use Rattle.std.specs.Prelude.{IsOk}
+use Rattle.std.proofs.Common.{◌≡◌, ℕ, ◌+◌, ◌-◌, List, ◌++◌, length, take, drop, Option, None, Some, Bool, true, false, cond, leb, refl, sym, ap, ◌∙◌, arith, append_assoc, length-append}
 use Rattle.std.proofs.lemmas.Bool.Decides.{nat_tests}
-use Rattle.port_io.specs.Faults.{HasCause}
-use Rattle.port_io.specs.Bytes.{told, Took, TookFront}
+use Rattle.port_io.specs.Bytes.{told, Took}
 use Rattle.port_io.proofs.ListLemmas.{take-rest_add}
 
 -- more bytes than what passed the room pass it too
@@ -27,8 +25,9 @@ told-then room bytes more (Some shown) c p q = rw (← told-all bytes shown (leb
 
 -- a sink took some bytes and then others
 pub Took-then : (room : Option ℕ) (a b c : Option (List ℕ)) (x y : List ℕ) → Took room a b x → Took room b c y → Took room a c (x ++ y)
-Took-then room None None c x y p q = q
-Took-then room None (Some b) c x y p q = absurd (cc p)
+Took-then None None b c x y p q = tt
+Took-then (Some room) None None c x y p q = q
+Took-then (Some room) None (Some b) c x y p q = absurd (cc p)
 Took-then None (Some a) None c x y p q = absurd (cc p)
 Took-then None (Some a) (Some b) c x y p q = cc (append_assoc a x y, p, q)
 Took-then (Some room) (Some a) b c x y p q = told-then room (a ++ x) y b c p q ∙ ap (told (Some room)) (append_assoc a x y)
@@ -36,12 +35,3 @@ Took-then (Some room) (Some a) b c x y p q = told-then room (a ++ x) y b c p q �
 -- a sink took the bytes before a place, and then some of those from there on
 pub Took-more : (room later : Option ℕ) (a b c : Option (List ℕ)) (bytes : List ℕ) (at count : ℕ) → later ≡ room → Took room a b (take at bytes) → Took later b c (take count (take (length bytes - at) (drop at bytes))) → Took room a c (take (at + count) bytes)
 Took-more room later a b c bytes at count e p q = rw (← take-rest_add bytes at count) (Took-then room a b c _ _ p (rw e at q))
-
--- a sink that took the bytes before a place took a front of them
-pub TookFront-at : (room : Option ℕ) (a b c : Option (List ℕ)) (bytes : List ℕ) (at : ℕ) → at ≤ length bytes → Took room a b (take at bytes) → c ≡ b → TookFront room a c bytes
-TookFront-at room a b c bytes at within p e = record { count = at; within = within; took = rw e p }
-
--- a port whose count stays 0 does not fail
-pub never-fails : {T E : Type 0} (r : Result T E) → HasCause 0 0 r → IsOk r
-never-fails (Ok v) h = refl
-never-fails (Err e) h = absurd (omega (arith, h.failed (λ q. absurd (omega arith))))

@@ -9,6 +9,11 @@ use Rattle.port_io.specs.MemoryPorts.{SureSinkState, sure_taken}
 pub Took-nothing : (bytes : List ℕ) → Took None (Some bytes) (Some bytes) []
 Took-nothing bytes = ap Some (sym (append-nil bytes))
 
+-- a sink without a limit, whether it tells or not
+pub unlimited-nothing : (taken : Option (List ℕ)) → Took None taken taken []
+unlimited-nothing None = tt
+unlimited-nothing (Some bytes) = Took-nothing bytes
+
 -- what a sink tells of these bytes, by whether they fit its room
 kept_if : Bool → List ℕ → Option (List ℕ)
 kept_if fits bytes = if fits then Some bytes else None

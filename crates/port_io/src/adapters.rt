@@ -1,7 +1,9 @@
-// The readers and writers of std as ports.
-ghost use Rattle.std.specs.Prelude.{◌≡◌, ℕ, ◌<◌, ◌≤◌, None, Some, length, IfOk, refl};
+//! The readers and writers of std as ports.
+
+ghost use Rattle.std.specs.Prelude.{◌≡◌, ℕ, ◌<◌, ◌≤◌, None, Some, length, IfOk};
 ghost use Rattle.port_io.specs.Faults.{HasCause};
 ghost use Rattle.port_io.specs.Bytes.{Reads, Took, Writes};
+ghost use Rattle.port_io.specs.SinkLaws.{unlimited-nothing};
 
 use crate::ports::{Failed, Sink, Source};
 use std::io::{ErrorKind, Read, Write};
@@ -45,8 +47,8 @@ impl<R: Read> Source for StdSource<R> {
     }
 }
 
-/// A writer of `std` as a sink. It tells nothing, and its count rises at each write that fails
-/// or takes nothing, up to 2^64 - 1.
+/// A writer of `std` as a sink. It tells the bytes that the writer tells, and its count rises at
+/// each write that fails or takes nothing, up to 2^64 - 1.
 #[derive(Drop)]
 pub struct StdSink<W> {
     inner: W,
@@ -56,7 +58,8 @@ pub struct StdSink<W> {
 impl<W: Write> StdSink<W> {
     /// The sink over this writer, with no faults counted.
     pub fn new(inner: W) -> StdSink<W>
-        ensures { ⟦<StdSink<W> as Sink>⟧.faults result ≡ 0 }
+        ensures taken { ⟦<StdSink<W> as Sink>⟧.taken result ≡ W.contents inner }
+        ensures faults { ⟦<StdSink<W> as Sink>⟧.faults result ≡ 0 }
     {
         StdSink { inner, faults: 0 }
     }
@@ -65,11 +68,11 @@ impl<W: Write> StdSink<W> {
 impl<W: Write> Sink for StdSink<W> {
     ghost room = { λ _. None };
 
-    ghost taken = { λ _. None };
+    ghost taken = { λ s. W.contents s.inner };
 
     ghost faults = { λ s. s.faults };
 
-    ghost nothing = { λ _. refl };
+    ghost nothing = { λ s. unlimited-nothing (W.contents s.inner) };
 
     fn write(&mut self, piece: &[u8]) -> Result<usize, Failed> {
         match self.inner.write(piece) {

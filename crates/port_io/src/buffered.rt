@@ -1,4 +1,5 @@
-// Output through a buffer of fixed size.
+//! Output through a buffer of fixed size.
+
 ghost use Rattle.std.specs.Prelude.{◌≡◌, ◌<◌, [], length, OnOk};
 ghost use Rattle.std.specs.Fmt.{signed_decimal};
 ghost use Rattle.std.specs.List.{flat_map};
@@ -11,7 +12,7 @@ use crate::waiting::Waiting;
 #[derive(Clone, Copy, Debug, PartialEq, Eq)]
 pub struct WriteFault;
 
-// Writes all bytes to the sink.
+/// Writes all bytes to the sink.
 fn write_all<K: Sink>(sink: &mut K, bytes: &[u8]) -> Result<(), WriteFault>
     ensures { Wrote (sink_view K.room K.taken K.faults sink.old)
         (sink_view K.room K.taken K.faults sink.new) bytes.now result }
@@ -29,7 +30,7 @@ fn write_all<K: Sink>(sink: &mut K, bytes: &[u8]) -> Result<(), WriteFault>
 /// A piece of a text that is put.
 #[derive(Clone, Copy)]
 pub enum Piece<'a> {
-    /// These bytes.
+    /// Bytes, put as they stand.
     Text(&'a [u8]),
     /// A whole number in decimal.
     Number(i64),
@@ -107,7 +108,7 @@ impl<'a, K: Sink> Out<'a, K> {
         Ok(())
     }
 
-    // Puts one piece.
+    /// Puts one piece.
     fn put_piece(&mut self, piece: Piece<'_>) -> Result<(), WriteFault>
         requires { IsOpen self.old }
         ensures same { sink_of self.new ≡ sink_of self.old }
@@ -120,7 +121,7 @@ impl<'a, K: Sink> Out<'a, K> {
         }
     }
 
-    // Leaves space for a byte at least.
+    /// Leaves space for a byte at least.
     fn make_space(&mut self) -> Result<(), WriteFault>
         requires { IsOpen self.old }
         ensures same { sink_of self.new ≡ sink_of self.old }
@@ -135,7 +136,7 @@ impl<'a, K: Sink> Out<'a, K> {
         }
     }
 
-    // Writes what waits to the sink.
+    /// Writes what waits to the sink.
     fn flush(&mut self) -> Result<(), WriteFault>
         requires { IsOpen self.old }
         ensures same { sink_of self.new ≡ sink_of self.old }

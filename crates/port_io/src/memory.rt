@@ -1,4 +1,5 @@
-// A source and a sink in memory, which fail at the calls that they are told to.
+//! A source and a sink in memory, which fail at the calls that they are told to.
+
 ghost use Rattle.std.specs.Prelude.{◌≡◌, ℕ, ◌+◌, ◌-◌, ◌<◌, ◌≤◌, ◌||◌, None, Some, List, [], ◌++◌, length, take, drop, min, nat_le, vec_len, vec_capacity, is_err, IfOk, OnOk, OnErr, refl, if◌then◌else◌};
 ghost use Rattle.port_io.specs.Faults.{HasCause};
 ghost use Rattle.port_io.specs.Bytes.{Reads, Took, Writes};
@@ -9,7 +10,7 @@ use crate::ports::{Failed, Sink, Source};
 use std::alloc::Global;
 use std::marker::Model;
 
-/// No memory was left for the room of a sink.
+/// Memory ran out for the room of a sink.
 #[derive(Clone, Copy, Debug, PartialEq, Eq)]
 pub struct NoMemory;
 
@@ -230,7 +231,7 @@ impl MemSink {
         }
     }
 
-    /// The bytes taken.
+    /// The bytes that the sink took, in order.
     pub fn bytes(&self) -> &[u8]
         ensures { result.now ≡ self.now.bytes }
     {

@@ -1,4 +1,5 @@
-// The two traits, and the error of their calls.
+//! The two traits, and the error of their calls.
+
 ghost use Rattle.std.specs.Prelude.{◌≡◌, ℕ, ◌<◌, ◌≤◌, List, [], Option, length, IfOk};
 ghost use Rattle.port_io.specs.Faults.{HasCause};
 ghost use Rattle.port_io.specs.Bytes.{Reads, Took, Writes};
@@ -12,10 +13,10 @@ pub struct Failed;
 /// A source has the bytes that are left, where it tells them, and a count of faults that never
 /// falls. Where it does not tell them, a read of 0 bytes is taken as the end.
 pub trait Source {
-    // The bytes that are left, where the source tells them.
+    /// The bytes that are left, where the source tells them.
     ghost left: { Self → Option (List ℕ) };
 
-    // How many faults the source counted.
+    /// How many faults the source counted.
     ghost faults: { Self → ℕ };
 
     /// Reads some of the bytes left into the front of `buf`, and says how many: at least one,
@@ -34,13 +35,13 @@ pub trait Source {
 /// falls. Its room, if it has one, is how many bytes it tells at most: it tells what it took
 /// exactly as long as that fits its room.
 pub trait Sink {
-    // How many bytes the sink tells at most, if there is a limit.
+    /// How many bytes the sink tells at most, if there is a limit.
     ghost room: { Self → Option ℕ };
 
-    // The bytes that the sink took, where it tells them.
+    /// The bytes that the sink took, where it tells them.
     ghost taken: { Self → Option (List ℕ) };
 
-    // How many faults the sink counted.
+    /// How many faults the sink counted.
     ghost faults: { Self → ℕ };
 
     /// Takes some of the front of `piece`, at least one byte, and says how many. It fails only
@@ -52,6 +53,6 @@ pub trait Sink {
         ensures room { room self.new ≡ room self.old }
         ensures cause { HasCause (faults self.old) (faults self.new) result };
 
-    // To take nothing changes nothing: what a sink tells fits its room.
+    /// To take nothing changes nothing: what a sink tells fits its room.
     ghost nothing: { (s : Self) → Took (room s) (taken s) (taken s) [] };
 }

@@ -1,4 +1,5 @@
-// A source and a sink in memory that never fail.
+//! A source and a sink in memory that never fail.
+
 ghost use Rattle.std.specs.Prelude.{◌≡◌, ℕ, ◌+◌, ◌≤◌, Option, None, Some, List, [], length, MatchOption, vec_len, vec_capacity, false, IfOk, if◌then◌else◌};
 ghost use Rattle.port_io.specs.Bytes.{told};
 ghost use Rattle.port_io.specs.MemoryPorts.{SureSinkState, sure_taken};

@@ -1,4 +1,5 @@
-// Faults in mid-stream, and each public call where nothing fails.
+//! Faults in mid-stream, and each public call where nothing fails.
+
 ghost use Rattle.std.specs.Prelude.{◌≡◌, ◌++◌, codes};
 ghost use Rattle.std.specs.Fmt.{signed_decimal};
 ghost use Rattle.port_io.specs.Output.{Wrote, sink_view};
@@ -6,7 +7,7 @@ ghost use Rattle.port_io.specs.Output.{Wrote, sink_view};
 use super::*;
 use std::test::Fail;
 
-// Writes a line through an `Out`, from its making to its end.
+/// Writes a line through an `Out`, from its making to its end.
 fn write_line<K: Sink>(sink: &mut K, number: i64) -> Result<(), WriteFault>
     ensures { Wrote (sink_view K.room K.taken K.faults sink.old)
         (sink_view K.room K.taken K.faults sink.new)
@@ -21,7 +22,7 @@ fn write_line<K: Sink>(sink: &mut K, number: i64) -> Result<(), WriteFault>
     out.finish()
 }
 
-// Each port may be handed to another thread.
+/// Each port may be handed to another thread.
 fn handed_over<T: Send>(port: T) -> T
     ensures { result ≡ port }
 {
@@ -67,7 +68,7 @@ fn answer_of(read: &Result<Vec<u8>, ReadAll>) -> &'static str {
         Ok(_) => "read",
         Err(ReadAll::TooLong) => "too long",
         Err(ReadAll::ReadFault) => "read fault",
-        Err(ReadAll::NoMemory) => "no memory",
+        Err(ReadAll::NoMemory) => "out of memory",
     }
 }
 
@@ -109,7 +110,7 @@ fn readers_and_writers_of_std_are_ports(rt: HostRuntime) -> Result<(), Fail> {
     Ok(())
 }
 
-// Writes a text, a number and the text again.
+/// Writes a text, a number and the text again.
 fn write_around<K: Sink>(sink: &mut K, text: &[u8]) -> Result<(), WriteFault> {
     let mut out = Out::new(sink);
     out.put(text)?;

@@ -1,13 +1,14 @@
-// The bytes that wait before a sink.
+//! The bytes that wait before a sink.
+
 ghost use Rattle.std.specs.Prelude.{◌≡◌, ℕ, ◌-◌, ◌≤◌, ◌↔◌, IsTrue, List, [], ◌++◌, length, take, min};
 
 use crate::memory::copy_front;
 use std::marker::Model;
 
-// How many bytes may wait.
+/// How many bytes may wait.
 const BUFFER: usize = 4096;
 
-// A buffer of fixed size.
+/// A buffer of fixed size.
 #[derive(Drop)]
 pub(crate) struct Waiting {
     bytes: [u8; BUFFER],
@@ -50,7 +51,7 @@ impl Waiting {
         self.len = 0;
     }
 
-    // Keeps as many of these bytes as there is space for, and says how many.
+    /// Keeps as many of these bytes as there is space for, and says how many.
     pub(crate) fn keep(&mut self, bytes: &[u8]) -> usize
         ensures count { result ≡ min (4096 - length self.old) (length bytes.now) }
         ensures kept { self.new ≡ self.old ++ take result bytes.now }

@@ -1,4 +1,5 @@
-// Reading an input to its end.
+//! Reading an input to its end.
+
 ghost use Rattle.std.specs.Prelude.{◌≡◌, ◌<◌, ◌≤◌, [], Some, length, vec_len, IfOk, OnOk, IfSome, IsErr, IsErrOf};
 ghost use Rattle.port_io.specs.Faults.{Rose};
 ghost use Rattle.port_io.specs.Bytes.{HasRest};
@@ -7,7 +8,7 @@ use crate::ports::Source;
 use std::alloc::Global;
 use thiserror::Error;
 
-// How many bytes one read asks for at most.
+/// How many bytes one read asks for at most.
 const PIECE: usize = 4096;
 
 /// Why an input was not read to its end.
@@ -19,7 +20,7 @@ pub enum ReadAll {
     /// The source failed.
     #[error("reading failed")]
     ReadFault,
-    /// No memory was left for the bytes.
+    /// Memory ran out for the bytes.
     #[error("out of memory")]
     NoMemory,
 }
@@ -27,7 +28,7 @@ pub enum ReadAll {
 /// All bytes of the source to its end, of which there may be `limit` at most.
 ///
 /// `TooLong` comes where more than `limit` bytes came, `ReadFault` only where the source's count
-/// of faults rose in this call, and `NoMemory` where no memory was left. What was read stays
+/// of faults rose in this call, and `NoMemory` where memory ran out. What was read stays
 /// read: after an error the source has a rest of its bytes left.
 pub fn read_up_to<S: Source>(
     alloc: Global,

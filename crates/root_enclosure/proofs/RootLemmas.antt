@@ -65,12 +65,6 @@ floor_root-mono m n h =
     let below = (floor_root-is m).at_most in
     le-floor_root n (floor_root m) (omega arith)
 
-pub floor_root-lt-pow : (n k : ℕ) → n < 2 ^ (2 * k) → floor_root n < 2 ^ k
-floor_root-lt-pow n k h =
-    let square : 2 ^ (k + k) ≡ 2 ^ k * 2 ^ k = pow-add 2 k k in
-    let same : 2 * k ≡ k + k = omega arith in
-    floor_root-lt n (2 ^ k) (rw (← square) (rw same at h))
-
 -- what the square of f leaves of m, where that is computed at 128 bits and found small
 pub rest_is : (m f : ℕ) → m < 2 ^ 126 → f < 2 ^ 63 → (m + (2 ^ 128 - f * f)) % 2 ^ 128 ≤ 2 * f → f * f + (m + (2 ^ 128 - f * f)) % 2 ^ 128 ≡ m
 rest_is m f hm hf h =
@@ -119,12 +113,6 @@ ceil_root-unique m c h = ceil_roots_agree m c (ceil_root m) h (ceil_root-is m)
 -- a number whose square is not below m is not below the root
 pub ceil_root-le : (m c : ℕ) → m ≤ c * c → ceil_root m ≤ c
 ceil_root-le m c h = (ceil_root-is m).least c h
-
--- a number whose square is below m is below the root
-pub lt-ceil_root : (m f : ℕ) → f * f < m → f < ceil_root m
-lt-ceil_root m f h =
-    let least = (ceil_root-is m).at_least in
-    lt-of-squares f (ceil_root m) (omega arith)
 
 pub ceil_root-mono : (m n : ℕ) → m ≤ n → ceil_root m ≤ ceil_root n
 ceil_root-mono m n h =

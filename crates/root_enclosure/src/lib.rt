@@ -116,7 +116,7 @@ mod tests {
         }
     }
 
-    // A root is between its neighbours, and no search was made for it.
+    /// A root is between its neighbours, and no search was made for it.
     fn check(rt: &impl Abort, m: u128) {
         if m < LIMIT {
             let floor = floor_root(m);

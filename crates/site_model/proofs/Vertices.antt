@@ -1,9 +1,9 @@
 -- The vertices of several polygons, and their bounding box.
-use Rattle.std.proofs.Common.{◌≡◌, ℕ, ◌+◌, ◌<◌, ◌≤◌, List, [], ◌∷◌, ◌++◌, length, get_or, take, map, All, ℤ, pos, negsuc, ◌*ℤ◌, ◌≤ℤ◌, unsigned_abs, refl, sym, ap, ◌∙◌, subst, arith, length-append}
+use Rattle.std.proofs.Common.{◌≡◌, ℕ, ◌+◌, ◌<◌, ◌≤◌, List, [], ◌∷◌, ◌++◌, length, get_or, take, map, All, ℤ, pos, negsuc, ◌*ℤ◌, refl, sym, ap, ◌∙◌, arith, length-append}
 use Rattle.std.specs.Int.{int_max, int_min}
 use Rattle.std.proofs.lemmas.List.{append-nil, take_more, map-append, length-map, length-take}
 use Rattle.std.proofs.lemmas.List.Concat.{flat_map-append}
-use Rattle.std.proofs.lemmas.List.Elements.{All-nil, All-head, All-tail, All-append, All-more, All-get_or}
+use Rattle.std.proofs.lemmas.List.Elements.{All-nil, All-head, All-tail, All-append, All-get_or}
 use borrow.Author.Differences.{ints}
 use Rattle.siting_definitions.specs.Integer.{least, greatest}
 use Rattle.siting_definitions.specs.Point.{Place}
@@ -52,13 +52,6 @@ unfolding bounds_of
 bounds_of-append us vs some more =
     rw (least_joined x_of us vs some more, least_joined y_of us vs some more, greatest_joined x_of us vs some more, greatest_joined y_of us vs some more) refl
 
-pub bounds-first : (ps : List (List Place)) (vs : List Place) → 0 < length ps → vs ≡ get_or ps 0 vs → bounds_of vs ≡ bounds_of (vertices (take 1 ps))
-bounds-first [] vs some at = absurd (omega arith)
-bounds-first (us ∷ ps) vs some at = ap bounds_of (at ∙ sym (append-nil us))
-
-pub polygons-first : (ps : List (List Place)) (vs : List Place) → 0 < length ps → vs ≡ get_or ps 0 vs → IsPolygon vs → All IsPolygon (take 1 ps)
-polygons-first ps vs some at polygon = All-more IsPolygon ps 0 vs some (All-nil IsPolygon) (subst IsPolygon at polygon)
-
 pub bounds-more : (ps : List (List Place)) (i : ℕ) (vs : List Place) (e f : Extent) → i < length ps → 1 ≤ i → All IsPolygon (take i ps) → vs ≡ get_or ps i vs → IsPolygon vs → e ≡ bounds_of (vertices (take i ps)) → f ≡ join e (bounds_of vs) → f ≡ bounds_of (vertices (take (i + 1) ps))
 bounds-more ps i vs e f within some polygons at polygon before now =
     let few = polygon.few in
@@ -70,10 +63,6 @@ bounds-more ps i vs e f within some polygons at polygon before now =
     ∙ ap bounds_of (sym (vertices-more ps i vs within))
 
 -- ---- limits
--- a number between two others is no greater in size than they may be
-between_sizes : (z low high : ℤ) (n : ℕ) → low ≤ℤ z → z ≤ℤ high → unsigned_abs low ≤ n → unsigned_abs high ≤ n → unsigned_abs z ≤ n
-between_sizes z low high n above below small large = omega (arith, ints)
-
 pub IsBoxWithin-bounds : (vs : List Place) → 0 < length vs → All IsPlace vs → IsBoxWithin (bounds_of vs)
 unfolding bounds_of
 IsBoxWithin-bounds vs some places =

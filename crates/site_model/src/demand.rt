@@ -1,4 +1,4 @@
-//! Demand points.
+//! Demand points, and the sum of their weights.
 
 ghost use Rattle.std.specs.Prelude.{◌≡◌, ◌≤◌, pos, All, length};
 ghost use Rattle.siting_definitions.specs.Instance as instances;

@@ -1,4 +1,4 @@
-//! Instances.
+//! An instance, and which points it permits.
 
 ghost use Rattle.std.specs.Prelude.{◌≡◌, ◌≤◌, pos, length, All, is_some};
 ghost use Rattle.std.specs.List.{list_any};

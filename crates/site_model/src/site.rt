@@ -1,4 +1,4 @@
-//! Sites.
+//! Sites, in grid units.
 
 ghost use Rattle.std.specs.Prelude.{◌≡◌};
 ghost use Rattle.siting_definitions.specs.Answer.{IsSite};
@@ -37,7 +37,7 @@ impl Site {
         Site { x, y }
     }
 
-    /// The site as a grid point.
+    /// The site as a grid point, in grid units.
     pub fn pt(self) -> Pt
         ensures value { result ≡ self }
         ensures site { IsSite self }

@@ -1,8 +1,7 @@
 -- The search by one worker: what holds between two leases.
-use Rattle.std.proofs.Common.{◌≡◌, ℕ, ◌+◌, ◌<◌, ◌≤◌, ℤ, ◌≤ℤ◌, ◌<ℤ◌, Bool, true, false, cond, List, [], ◌∷◌, Option, None, Some, length, refl, sym, ap, ◌∙◌, subst, ◌⊎◌, inl, inr, ⊎_elim, arith}
-use Rattle.std.specs.Prelude.{⊤, MatchOption, option_map, int_lt, IsPermutation}
-use Rattle.std.specs.Int.{int_min}
-use Rattle.std.proofs.lemmas.Bool.{cases_Bool, true≢false, false≢true}
+use Rattle.std.proofs.Common.{◌≡◌, ℕ, ◌+◌, ℤ, ◌≤ℤ◌, ◌<ℤ◌, Bool, true, false, cond, List, [], ◌∷◌, Option, None, Some, length, refl, sym, ap, ◌∙◌, subst, ◌⊎◌, inl, inr, ⊎_elim, arith}
+use Rattle.std.specs.Prelude.{⊤, MatchOption, option_map, int_lt}
+use Rattle.std.proofs.lemmas.Bool.{cases_Bool}
 use Rattle.std.specs.List.{Contains}
 use Rattle.std.proofs.lemmas.Int.{clamps}
 use Rattle.std.proofs.lemmas.List.Sorted.{length_permutation, Contains-permutation}
@@ -15,16 +14,15 @@ use Rattle.siting_definitions.specs.Bounds.{upper_of}
 use Rattle.siting_definitions.specs.Marks.{IsAtMost, IsNoneOrAtLeast, lesser}
 use Rattle.bound_heap.specs.declared.entry.Entry.{Entry}
 use Rattle.pool_core.specs.declared.stop.Stop.{Stop}
-use Rattle.pool_core.specs.declared.stop.Stop.TheVariants.{PoolFull, Budget}
-use Rattle.pool_core.specs.declared.verdict.Finding.{Finding}
-use Rattle.pool_core.specs.Job.{Job, IsJob, IsLawful, IsOffer, cost_in, start_cost}
-use Rattle.pool_core.specs.Verdict.{finding_of, is_part}
-use Rattle.pool_core.specs.State.{State, Search, open_count}
-use Rattle.pool_core.specs.Machine.{Leases, Halts, Returns, MayReturn, IsSeen, Lease, Halt, Offer, Return, Step, is_kept, first_stop}
+use Rattle.pool_core.specs.declared.stop.Stop.TheVariants.{PoolFull}
+use Rattle.pool_core.specs.Job.{Job, IsJob, IsOffer, cost_in}
+use Rattle.pool_core.specs.Verdict.{finding_of}
+use Rattle.pool_core.specs.State.{State, open_count}
+use Rattle.pool_core.specs.Machine.{Leases, Halts, Returns, MayReturn, IsSeen, is_kept, first_stop}
 use Rattle.pool_core.specs.Sound.{IsSound, IsPoolOf, IsFinished}
 use Rattle.pool_core.proofs.SoundSteps.{sound_lease, sound_halt, sound_offer, sound_return}
 use Rattle.site_workers.specs.Ending.{IsImproved, is_full}
-use Rattle.site_workers.specs.Search.{Searched, SearchEnds, IsBetween, better_of, centre_offer}
+use Rattle.site_workers.specs.Search.{SearchEnds, IsBetween, better_of, centre_offer}
 
 some≢none : {X : Type 0} (x : X) → Some x ≡ None → ⊥
 some≢none x e = grind (arith)
@@ -171,9 +169,6 @@ turned j first s s1 s2 e best best' b t =
     (turned_from first s s1 s2 e best best' (subst (λ (k : Job). IsBetween k first s best) (sym same) b) (subst (λ (k : Job). IsTurn k e best best' s s1 s2) (sym same) t))
 
 -- ---- the end
-pub done : (j : Job) (first s : State) (best : Option (Pt × ℤ)) → IsBetween j first s best → s.waiting ≡ [] → IsFinished j s best
-done j first s best b none = record { job = b.job; leased = b.leased; ended = λ going. none; sound = b.sound; best_is = b.best_is }
-
 pub ends : (j : Job) (first s s' : State) (best : Option (Pt × ℤ)) → IsBetween j first s best → ((s' ≡ s) ⊎ Halts s s') → SearchEnds first j.start s' best
 ends j first s s' best b last = record { leased = b.so_far; last = s; searched = b.searched; ends = last }
 

@@ -1,6 +1,6 @@
 //! The answer that a search ends with.
 
-ghost use Rattle.std.specs.Prelude.{◌≡◌, ℕ, ◌+◌, ◌<◌, ◌≤◌, ◌^◌, map, length, is_some, All, false, slice_set, slice_index_or};
+ghost use Rattle.std.specs.Prelude.{◌≡◌, ℕ, ◌<◌, ◌≤◌, ◌^◌, map, length, is_some, All, false, slice_set, slice_index_or};
 ghost use Rattle.siting_definitions.specs.Answer.{IsHead, IsMark, IsWorkedBy};
 ghost use Rattle.siting_definitions.specs.Marks as marks;
 ghost use Rattle.discard_log.specs.declared.node.Node as nodes_of;

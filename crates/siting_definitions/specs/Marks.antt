@@ -20,12 +20,12 @@ abbrev pub IsNoneOrAtLeast : Option ℤ → ℤ → Type 0
 IsNoneOrAtLeast None z = ⊤
 IsNoneOrAtLeast (Some n) z = z ≤ℤ n
 
--- v is a number of the incumbent that may have been seen when s was cut, with u the least upper cost at the end
+-- v is a number of the incumbent that may have been seen when s was split, with u the least upper cost at the end
 abbrev pub SeenFits : Instance → ℤ → Option ℤ → Square → Option ℤ → Type 0
 SeenFits i gap u s None = (opening_cost i ≡ None) × (centre_cost i s ≡ None)
 SeenFits i gap u s (Some v) = IsAtMost u v × ((fine_of i s +ℤ gap) <ℤ v) × IsNoneOrAtLeast (opening_cost i) v × IsNoneOrAtLeast (centre_cost i s) v
 
--- the cut of s, after v was seen, was called for
+-- the split of s, after v was seen, was called for
 pub record IsCalledFor (i : Instance) (gap : ℤ) (u : Option ℤ) (s : Square) (v : Option ℤ) : Type 0 where
   pub level : 0 < s.level
   pub open_square : is_excluded i s ≡ false

@@ -7,7 +7,7 @@ pub data Tree : Type 0 where
   Leaf : Tree
   Branch : Tree → Tree → Tree → Tree → Tree
 
--- no square of level 0 is cut, where the shape's square has this level
+-- no square of level 0 is split, where the shape's square has this level
 abbrev pub Fits : Tree → ℕ → Type 0
 Fits Leaf level = ⊤
 Fits (Branch a b c d) level = (0 < level) × Fits a (level - 1) × Fits b (level - 1) × Fits c (level - 1) × Fits d (level - 1)

@@ -11,9 +11,6 @@ is_word (b ∷ bs) = nat_lt 32 b && list_all (λ c. nat_lt 32 c) bs
 abbrev pub are_words : List (List ℕ) → Bool
 are_words fields = list_all is_word fields
 
-pub record IsWord (field : List ℕ) : Type 0 where
-  pub test : IsTrue (is_word field)
-
 -- each field of each line is a word
 pub record AreWords (lines : List (List (List ℕ))) : Type 0 where
   pub test : IsTrue (list_all are_words lines)

@@ -1,3 +1,5 @@
+//! The fields of a line.
+
 ghost use Rattle.std.specs.Prelude.{◌≡◌, ◌<◌, ◌≤◌, false, true, [], ◌∷◌, length, take, drop, IfSome, IfNone};
 ghost use Rattle.std.specs.Str.{bytes_eq};
 ghost use Rattle.text_lines.specs.Lines.{is_gap as is_gap_byte, begins_with_gap, fields_of, is_passed_over as is_passed};
@@ -47,12 +49,14 @@ pub fn is_word(field: &[u8], word: &[u8]) -> bool
     field == word
 }
 
+/// Whether a byte is a space or a tab.
 fn is_gap(byte: u8) -> bool
     ensures { result ≡ is_gap_byte byte }
 {
     byte == b' ' || byte == b'\t'
 }
 
+/// The bytes of a line from its first field on, or none where the line is blank.
 fn past_gap(line: &[u8]) -> &[u8]
     ensures fields { fields_of line.now ≡ fields_of result.now }
     ensures start { 0 < length result.now → begins_with_gap result.now ≡ false }
@@ -68,6 +72,7 @@ fn past_gap(line: &[u8]) -> &[u8]
     rest
 }
 
+/// How many bytes the field has that these bytes begin with.
 fn field_end(start: &[u8]) -> usize
     requires some { 0 < length start.now }
     requires begins { begins_with_gap start.now ≡ false }

@@ -1,3 +1,5 @@
+//! The lines of a text.
+
 ghost use Rattle.std.specs.Prelude.{◌≡◌, ◌<◌, ◌∷◌, length};
 ghost use Rattle.text_lines.specs.Lines.{pieces_of, without_return as stripped, lines_of};
 
@@ -16,6 +18,7 @@ pub fn next_line(bytes: &[u8]) -> (&[u8], &[u8])
     (without_return(piece), rest)
 }
 
+/// The bytes before the first line feed, and those after it; all of them where there is none.
 fn next_piece(bytes: &[u8]) -> (&[u8], &[u8])
     requires { 0 < length bytes.now }
     ensures first { pieces_of bytes.now ≡ result.0.now ∷ pieces_of result.1.now }
@@ -27,6 +30,7 @@ fn next_piece(bytes: &[u8]) -> (&[u8], &[u8])
     }
 }
 
+/// A piece without one carriage return at its end.
 fn without_return(piece: &[u8]) -> &[u8]
     ensures { result.now ≡ stripped piece.now }
 {

@@ -1,5 +1,8 @@
+//! The numbers that fields are.
+
 ghost use Rattle.std.specs.Prelude.{◌≡◌, ◌+◌, ◌*◌, ◌<◌, ◌≤◌, ◌^◌};
 ghost use Rattle.std.specs.Option.{option_map};
+ghost use Rattle.text_lines.specs.Numbers.{digits_of, number_of, capped, capped_size, within, HasSize};
 
 /// What a field is, where a number of at most some size is asked for.
 #[derive(Clone, Copy, Debug, PartialEq, Eq)]
@@ -8,11 +11,9 @@ pub enum Within {
     NotANumber,
     /// It is a number of a greater size.
     Beyond,
-    /// The number.
+    /// It is this number, of at most that size.
     Value(i64),
 }
-
-ghost use Rattle.text_lines.specs.Numbers.{digits_of, number_of, capped, capped_size, within, HasSize};
 
 /// The number that a field of one or more digits stands for, or none where the field isn't one.
 ///

@@ -1,3 +1,5 @@
+//! Each public call at a table of cases.
+
 use super::*;
 use std::alloc::{AllocError, Global};
 use std::test::Fail;

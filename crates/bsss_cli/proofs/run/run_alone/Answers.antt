@@ -1,4 +1,4 @@
-use Rattle.std.proofs.Common.{◌≡◌, Option, subst}
+use Rattle.std.proofs.Common.{Option, subst}
 use Rattle.bsss_cli.specs.declared.words.Command.{Command}
 use Rattle.bsss_cli.specs.Outcome.{Completes}
 use Rattle.bsss_cli.proofs.CompleteLemmas.{completes}

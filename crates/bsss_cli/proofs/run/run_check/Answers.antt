@@ -1,4 +1,4 @@
-use Rattle.std.proofs.Common.{Some, Ok, Err, refl, ap}
+use Rattle.std.proofs.Common.{Some, refl}
 use Rattle.bsss_cli.specs.declared.words.Command.TheVariants.{Check}
 use Rattle.bsss_cli.specs.declared.status.Status.TheVariants.{Accepted, TooLong}
 use Rattle.bsss_cli.specs.Texts.{accepted, too_long}

@@ -1,4 +1,4 @@
-use Rattle.std.proofs.Common.{◌≡◌, ◌∙◌, ap}
+use Rattle.std.proofs.Common.{◌∙◌, ap}
 use Rattle.std.specs.Prelude.{option_map}
 use Rattle.bsss_cli.proofs.GapLemmas.{opening_cost-small, upper-small}
 use Rattle.bsss_cli.proofs.solve.job_of.Goals as goal

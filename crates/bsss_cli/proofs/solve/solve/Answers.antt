@@ -1,4 +1,4 @@
-use Rattle.std.proofs.Common.{◌≡◌, sym, subst}
+use Rattle.std.proofs.Common.{sym, subst}
 use Rattle.siting_definitions.specs.Answer.{Head}
 use Rattle.pool_core.specs.Job.{Job}
 use Rattle.pool_core.specs.State.{State}

@@ -31,7 +31,7 @@ begins c =
     let empty = ap (λ (h : HeapView). h.entries) c.in_ok-waiting.ensures in
     let room = ap (λ (h : HeapView). h.spare) c.in_ok-waiting.ensures in
     record {
-      job = c.in_ok-job.ensures ∙ sym c.job.view_is;
+      job = c.in_ok-job.ensures.cases ∙ sym c.job.view_is;
       waiting = root_waits (job_of c) c.job.inside.root c.coarse-bound.result _ c.in_ok-waiting.waiting.entries c.push.new.self.entries c.job.invariant.root_is c.coarse-bound.ensures.value (to_z-of_z w64 c.coarse-bound.result fits) empty c.push.ensures.entries;
       spare = c.push.ensures.spare ∙ room;
       leased = c.in_ok-leased.ensures.0;

@@ -29,7 +29,7 @@ begins : (c : goal.After-len-open) → IsBegun (job_of c) c.nodes-nodes.result.n
 unfolding after job_of
 begins c =
     record {
-      job = c.in_ok-job.ensures ∙ sym c.job.view_is;
+      job = c.in_ok-job.ensures.cases ∙ sym c.job.view_is;
       waiting = c.sort_out.ensures.waiting;
       raised = c.sort_out.ensures.raised;
       waiting_room = c.sort_out.ensures.waiting_room ∙ ap (λ (h : HeapView). h.spare) c.in_ok-waiting.ensures;
