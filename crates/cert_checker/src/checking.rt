@@ -17,7 +17,7 @@ use crate::faults::{CheckError, CheckFault, TREE_LONG, TREE_SHORT, plain};
 use crate::head::{best_in, opening_or_fault};
 use crate::mark::mark_fault;
 use crate::walk::Walk;
-use certificate::{AnswerReader, Head, Item, Tally};
+use certificate::{AnswerReader, Head, Item, Tally, is_split};
 use port_io::Source;
 use site_model::Site;
 use siting_definitions::{Mark, Word};
@@ -125,19 +125,6 @@ fn read_mark(
     walk.step(is_split(mark));
     tally.add(mark);
     Ok(())
-}
-
-/// Whether a mark is that of a split square.
-fn is_split(mark: Mark) -> bool
-    ensures { result ≡ marks.is_split mark }
-{
-    match mark {
-        Mark::Split(_) => true,
-        Mark::Shut => false,
-        Mark::Bounded(_) => false,
-        Mark::Floor(_) => false,
-        Mark::Left(_) => false,
-    }
 }
 
 /// Checks the last line.

@@ -2,7 +2,7 @@
 use Rattle.std.specs.Prelude.{◌≡◌, ℕ, List, Option, Some, None, Result, Ok, Err, IfSome}
 use Rattle.std.proofs.Common.{sym, ◌∙◌, ap}
 use Rattle.siting_definitions.specs.Answer.{Head}
-use Rattle.certificate.specs.declared.beginning.Beginning.{Beginning}
+use Rattle.certificate.specs.declared.reader.beginning.Beginning.{Beginning}
 use Rattle.certificate.specs.declared.reader.AnswerReader.{AnswerReader}
 use Rattle.certificate.specs.declared.reader.AnswerError.{AnswerError}
 use Rattle.certificate.specs.HeadReading.{Coming}

@@ -1,7 +1,7 @@
 -- What contracts see of the beginning of an answer.
 use Rattle.std.specs.Prelude.{◌≡◌, ℕ, List, Option, Some, option_map, Result, Ok, Err}
 use Rattle.siting_definitions.specs.Answer.{Head}
-use Rattle.certificate.specs.declared.beginning.Beginning.{Beginning}
+use Rattle.certificate.specs.declared.reader.beginning.Beginning.{Beginning}
 use Rattle.certificate.specs.declared.reader.AnswerError.{AnswerError}
 use Rattle.certificate.specs.HeadReading.{Coming}
 use Rattle.certificate.specs.ReaderView.{coming_after, FailsAs}

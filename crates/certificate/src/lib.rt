@@ -1,19 +1,9 @@
 //! The text of an answer: writing it to a sink, and reading it from a source in any pieces.
 #![tactic(auto)]
 
-mod beginning;
-mod forms;
 mod head;
-mod head_lines;
-mod held;
 mod laws;
-mod part;
-mod part_lines;
-mod parts;
-mod place;
 mod reader;
-#[cfg(test)]
-mod reader_tests;
 mod tally;
 mod write;
 
@@ -23,7 +13,7 @@ pub use laws::{
 };
 pub use reader::{AnswerError, AnswerReader, Item};
 pub use siting_definitions::Word;
-pub use tally::{Tally, tallies_join};
+pub use tally::{Tally, is_split, tallies_join};
 pub use write::write_answer;
 
 #[cfg(test)]

@@ -2,7 +2,9 @@
 
 ghost use Rattle.std.specs.Prelude.{◌≡◌, ◌<◌, ◌^◌, [], ◌∷◌, ◌++◌, List};
 ghost use Rattle.siting_definitions.specs.declared.Mark.{Mark as MarkOf};
+ghost use Rattle.siting_definitions.specs.Marks as marks;
 ghost use Rattle.siting_definitions.specs.Marks.{lesser as lesser_of, tally_of};
+ghost use Rattle.siting_definitions.specs.Answer.{IsMark};
 ghost use Rattle.certificate.specs.Tallies.{joined};
 
 use siting_definitions::Mark;
@@ -36,6 +38,17 @@ impl Model for Tally {
     ghost invariant = { λ t. (t.splits ≤ t.nodes) × (t.leaves ≤ t.nodes) × (t.open_leaves ≤ t.nodes) × (t.floor_leaves ≤ t.nodes) };
 
     ghost inverse = { λ t. record { nodes = t.nodes; splits = t.splits; leaves = t.leaves; open_leaves = t.open_leaves; floor_leaves = t.floor_leaves; least = t.least } };
+}
+
+/// Whether a mark is that of a split square.
+pub fn is_split(mark: Mark) -> bool
+    ensures value { result ≡ marks.is_split mark }
+    ensures range { IsMark mark }
+{
+    match mark {
+        Mark::Split(_) => true,
+        Mark::Shut | Mark::Bounded(_) | Mark::Floor(_) | Mark::Left(_) => false,
+    }
 }
 
 /// The lesser of two numbers that may be absent.

@@ -5,14 +5,13 @@ ghost use Rattle.siting_definitions.specs.Answer.{IsHead, IsMark, IsWorkedBy};
 ghost use Rattle.siting_definitions.specs.Marks as marks;
 ghost use Rattle.discard_log.specs.declared.node.Node as nodes_of;
 ghost use Rattle.pool_core.specs.Sound.{IsFinished};
-ghost use Rattle.pool_core.specs.Job.{cost_in};
 ghost use Rattle.certificate.specs.Inside.{best_of};
 ghost use Rattle.certificate.specs.Written.{mark_of};
 ghost use Rattle.site_workers.specs.Ending.{Finishes, IsKeptBy, answer_of, best_by, finished_node, head_by};
 ghost use Rattle.site_workers.specs.Ending as endings;
 
-use crate::closed::Closed;
-use certificate::{Head, Tally, Word};
+use crate::closed::{Closed, upper_cost};
+use certificate::{Head, Tally, Word, is_split};
 use discard_log::{Mark, NodeList};
 use dyadic_square::Square;
 use exclusion::excluded;
@@ -31,7 +30,7 @@ pub fn finish(job: Job, closed: Closed) -> (Head, NodeList)
     let stop = pool.stop();
     let leases = pool.leases();
     let mut nodes = pool.into_nodes();
-    let tally = finish_marks(&job, least_of(&best), &mut nodes);
+    let tally = finish_marks(&job, upper_cost(&best), &mut nodes);
     let head = head_of(job, &best, &tally, stop, leases);
     (head, nodes)
 }
@@ -67,17 +66,6 @@ fn finish_node(job: &Job, least: Option<i64>, nodes: &mut NodeList, i: usize) ->
     mark
 }
 
-/// Whether a mark is that of a split square.
-fn is_split(mark: Mark) -> bool
-    ensures value { result ≡ marks.is_split mark }
-    ensures range { IsMark mark }
-{
-    match mark {
-        Mark::Split(_) => true,
-        Mark::Shut | Mark::Bounded(_) | Mark::Floor(_) | Mark::Left(_) => false,
-    }
-}
-
 /// The finished mark of a leaf, for the gap and the least upper cost.
 #[tactic(auto, unfolding(siting_definitions::specs::Marks::leaf_mark))]
 fn leaf_mark(job: &Job, least: Option<i64>, sq: Square) -> Mark
@@ -96,16 +84,6 @@ fn leaf_mark(job: &Job, least: Option<i64>, sq: Square) -> Mark
         Mark::Floor(bound)
     } else {
         Mark::Left(bound)
-    }
-}
-
-/// The upper cost of the best site, in cost units.
-fn least_of(best: &Option<(Site, i64)>) -> Option<i64>
-    ensures { result ≡ cost_in best.now }
-{
-    match *best {
-        None => None,
-        Some((_, upper)) => Some(upper),
     }
 }
 

@@ -1,5 +1,8 @@
 //! The end of a search.
 
+ghost use Rattle.std.specs.Prelude.{◌≡◌};
+ghost use Rattle.pool_core.specs.Job.{cost_in};
+
 use pool_core::Pool;
 use site_model::Site;
 
@@ -10,4 +13,14 @@ pub struct Closed {
     pub pool: Pool,
     /// The best site with its upper cost, in cost units, if there is one.
     pub best: Option<(Site, i64)>,
+}
+
+/// The upper cost of the best site, in cost units, if there is one.
+pub(crate) fn upper_cost(best: &Option<(Site, i64)>) -> Option<i64>
+    ensures { result ≡ cost_in best.now }
+{
+    match *best {
+        None => None,
+        Some((_, upper)) => Some(upper),
+    }
 }

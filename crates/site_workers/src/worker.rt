@@ -8,7 +8,7 @@ ghost use Rattle.pool_core.specs.Sound.{IsFinished, IsPoolOf};
 ghost use Rattle.site_workers.specs.Ending.{IsImproved, is_full};
 ghost use Rattle.site_workers.specs.Search.{SearchEnds, better_of, centre_offer};
 
-use crate::closed::Closed;
+use crate::closed::{Closed, upper_cost};
 use candidate_sites::centre_site;
 use pool_core::{Job, Lease, LeaseAnswer, Pool, judge};
 use site_model::Site;
@@ -48,7 +48,7 @@ fn work(job: &Job, pool: &mut Pool, lease: Lease, best: &Option<(Site, i64)>) ->
 {
     let offered = centre_site(&job.instance, lease.square());
     let best = better(best, &offered);
-    let verdict = judge(job, &lease, cost_of(&best));
+    let verdict = judge(job, &lease, upper_cost(&best));
     pool.give_back(lease, verdict);
     best
 }
@@ -61,15 +61,5 @@ fn better(best: &Option<(Site, i64)>, offered: &Option<(Site, i64)>) -> Option<(
         (best, None) => best,
         (None, offered) => offered,
         (Some(best), Some(offered)) => Some(if offered.1 < best.1 { offered } else { best }),
-    }
-}
-
-/// The upper cost of the best site, if there is one.
-fn cost_of(best: &Option<(Site, i64)>) -> Option<i64>
-    ensures { result ≡ cost_in best.now }
-{
-    match *best {
-        None => None,
-        Some((_, upper)) => Some(upper),
     }
 }

@@ -32,7 +32,7 @@ made c =
         nodes = c.into_nodes-nodes.ensures.nodes;
         preorder_is = c.into_nodes-nodes.ensures.preorder;
       };
-      nodes = c.finish_marks-tally.ensures.nodes ∙ ap (λ u. map (finished_node j u) c.into_nodes-nodes.result) c.least_of.ensures;
+      nodes = c.finish_marks-tally.ensures.nodes ∙ ap (λ u. map (finished_node j u) c.into_nodes-nodes.result) c.upper_cost.ensures;
       head = c.head_of-head.ensures.value
           ∙ ap (λ (k : Tally). head_by j best k c.stop-stop.result c.leases-leases.result) c.finish_marks-tally.ensures.tally
           ∙ ap (λ (stop : Option Stop). head_by j best t stop c.leases-leases.result) c.stop-stop.ensures

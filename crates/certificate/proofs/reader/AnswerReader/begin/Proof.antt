@@ -50,8 +50,8 @@ use Rattle.std.specs.contracts.result.Result as result
 use Rattle.certificate.specs.HeadReading.{coming_of, head_reading}
 use Rattle.certificate.specs.ReaderView.{coming, source_of, faults_of, BeginsAs, Blames}
 use Rattle.certificate.specs.Beginnings.{coming_then, ReadsHead}
-use Rattle.certificate.specs.contracts.beginning.Beginning as beginning
-use Rattle.certificate.proofs.beginning.Beginning.TheLaws as beginning_laws
+use Rattle.certificate.specs.contracts.reader.beginning.Beginning as beginning
+use Rattle.certificate.proofs.reader.beginning.Beginning.TheLaws as beginning_laws
 use Rattle.certificate.specs.contracts.reader.AnswerError as error
 use Rattle.certificate.proofs.reader.AnswerError.TheLaws as error_laws
 use Rattle.certificate.specs.contracts.reader.AnswerReader as reader
@@ -60,8 +60,8 @@ use Rattle.certificate.specs.contracts.head.Head as answer_head
 use Rattle.certificate.proofs.head.Head.TheLaws as head_laws
 use Rattle.certificate.proofs.Lending.{lone, typed, sorted, live_typed, ok_of, err_of, rests_at_ok, rests_at_err}
 use Rattle.certificate.proofs.BeginLemmas.{begins_after, fails_after, blames_as}
-use Rattle.certificate.specs.contracts.beginning.read_beginning as g
-use Rattle.certificate.proofs.beginning.read_beginning.Met as g-thm
+use Rattle.certificate.specs.contracts.reader.beginning.read_beginning as g
+use Rattle.certificate.proofs.reader.beginning.read_beginning.Met as g-thm
 use Rattle.certificate.specs.contracts.reader.AnswerReader.after as k
 use Rattle.certificate.proofs.reader.AnswerReader.after.Met as k-thm
 use Rattle.certificate.specs.contracts.reader.AnswerReader.begin as f
@@ -108,7 +108,7 @@ begin_spec 𝓤 𝓛 𝓜 𝓡 wired S L ghosts dict met =
     nothing ! $ move ! (1 ∷ 0 ∷ []) $ fjoin ! $ move ! (5 ∷ 0 ∷ []) $ fjoin ! $ nothing ! $ move ! (4 ∷ 0 ∷ []) $ join ! $ move ! (3 ∷ 0 ∷ []) $ join ! $ join ! $
     use0 𝓛 (raw (fact 𝓤 (ν ⊑ S.lives))) (fact_i 𝓤 (ν ⊑ S.lives) (emp 𝓤) (⊑_trans ν μ S.lives (meet_⊑_right (α ∷ []) μ) within)) $
     use0 𝓛 (raw (emp 𝓤)) (id⊢ 𝓤 (emp 𝓤)) $ move ! (1 ∷ 0 ∷ []) $ join ! $ move ! (1 ∷ 0 ∷ []) $ join ! $ use1 𝓛 (raw (G.pre y)) (id⊢ 𝓤 _) $
-    calls_at ! (framed 𝓤 H 𝓜 𝓣) G (g-thm.met 𝓤 𝓛 𝓜 𝓡 (code.calls-certificate::beginning::read_beginning 𝓡.env wired) S L ghosts dict met) y (and_then ! (get ! refl) (and_then ! (get ! refl) (no_more !))) (λ v.
+    calls_at ! (framed 𝓤 H 𝓜 𝓣) G (g-thm.met 𝓤 𝓛 𝓜 𝓡 (code.calls-certificate::reader::beginning::read_beginning 𝓡.env wired) S L ghosts dict met) y (and_then ! (get ! refl) (and_then ! (get ! refl) (no_more !))) (λ v.
     use1 𝓛 (later (some (λ (u : In.Denot). ((‵ (flft ν (left t)) ⊛ ‵ (flft ν (right t)) ⊛ ‵ ftrue) ⊛ ‵ (In.own_val u (v ∷ []))) ⊛
     some (λ (ws : Lasts (g.ended S ghosts dict) y.0.0 y.0.3). ‵ (lasts (g.ended S ghosts dict) y.0.0 y.0.3 ws) ⊛ raw (fact 𝓤 (Reads ws.1.0 u)) ⊛ raw (fact 𝓤 (Blames (ghosts.faults x) (ghosts.faults ws.1.0) u)))))) (id⊢ 𝓤 _) $
     await ! tt $ pick ! (λ read. split ! $ split ! $

@@ -1,6 +1,0 @@
-use Rattle.std.proofs.Common.{rules}
-use Rattle.port_io.proofs.PutLemmas.{Wrote-finish}
-use Rattle.certificate.proofs.part.put_instance.Goals as goal
-
-pub returns : goal.returns
-returns g c = Wrote-finish c.new-out.ensures.stage c.in_ok-write_instance.ensures.put c.finish.ensures (search rules)
