@@ -11,6 +11,7 @@ use Rattle.bound_heap.specs.Ranks.{by_bound}
 at_most : (a b : ℤ) → is_lt (int_cmp b a) ≡ false → a ≤ℤ b
 at_most a b h = grind (arith, ints)
 
+-- the highest in rank has the least bound
 pub least : (r : Ranked) (rs : List Ranked) → IsUpperBound by_bound r rs → All (λ (other : Entry). r.entry.bound ≤ℤ other.bound) (map (λ (q : Ranked). q.entry) rs)
 least r [] h = All-nil (λ (other : Entry). r.entry.bound ≤ℤ other.bound)
 least r (q ∷ rs) h =

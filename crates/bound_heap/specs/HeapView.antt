@@ -1,4 +1,5 @@
--- What contracts see of a heap: its entries, in an order that is free, and for how many more there is room.
+-- What contracts see of a heap: its entries, in an order that is free, and for how many more there
+-- is room.
 use Rattle.std.specs.Prelude.{ℕ, List}
 use Rattle.bound_heap.specs.declared.entry.Entry.{Entry}
 

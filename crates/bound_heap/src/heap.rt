@@ -29,9 +29,13 @@ impl Model for Heap {
 
     ghost Value = { HeapView };
 
-    ghost view = { λ a. record { entries = map (λ r. r.entry) (heap_items a.heap); spare = a.room - heap_len a.heap } };
+    ghost view = { λ a. record {
+      entries = map (λ r. r.entry) (heap_items a.heap);
+      spare = a.room - heap_len a.heap;
+    } };
 
-    ghost invariant = { λ a. IsHeap by_bound (heap_items a.heap) × (heap_len a.heap ≤ a.room) × (a.room ≤ heap_capacity a.heap) };
+    ghost invariant = { λ a. IsHeap by_bound (heap_items a.heap) × (heap_len a.heap ≤ a.room)
+        × (a.room ≤ heap_capacity a.heap) };
 }
 
 impl Heap {
@@ -75,8 +79,11 @@ impl Heap {
     /// there is no entry.
     pub fn pop(&mut self) -> Option<Entry>
         ensures some { IsSome result ↔ (0 < length self.old.entries) }
-        ensures entries { IfSome result (λ entry. IsPermutation self.old.entries (entry ∷ self.new.entries)) }
-        ensures least { IfSome result (λ entry. All (λ (other : entries.Entry). entry.bound ≤ℤ other.bound) self.old.entries) }
+        ensures entries { IfSome result
+            (λ entry. IsPermutation self.old.entries (entry ∷ self.new.entries)) }
+        ensures least { IfSome result
+            (λ entry. All (λ (other : entries.Entry). entry.bound ≤ℤ other.bound)
+            self.old.entries) }
         ensures spare { IfSome result (λ entry. self.new.spare ≡ self.old.spare + 1) }
         ensures none { IfNone result (self.new ≡ self.old) }
     {

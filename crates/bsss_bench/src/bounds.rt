@@ -8,6 +8,7 @@ use dyadic_square::Square;
 use exact_geometry::Place;
 use objectives::{coarse, cost_of, fine};
 use site_model::{DemandPt, Instance, Kind, Site};
+use siting_definitions::POINT_LIMIT;
 use std::alloc::Global;
 
 /// A demand point with a weight of at most 3,906 in size, so that 4,096 of them make an instance. A cutoff of 0 is none.
@@ -36,6 +37,15 @@ pub struct SquareRow {
     pub level: u8,
 }
 
+/// What is computed of each square.
+#[derive(Clone, Copy)]
+enum Measure {
+    CoarseBound,
+    FineBound,
+    /// The lower cost of the lower left corner.
+    LowerCost,
+}
+
 /// Writes the coarse bound of each square, and answers whether the rows make an instance and squares.
 #[unsafe(no_mangle)]
 pub extern "C" fn bsss_bench_coarse(
@@ -44,16 +54,7 @@ pub extern "C" fn bsss_bench_coarse(
     squares: &[SquareRow],
     bounds: &mut [i64],
 ) -> bool {
-    let Some(instance) = instance_of(alloc, points) else {
-        return false;
-    };
-    for (row, bound) in squares.iter().zip(bounds.iter_mut()) {
-        let Some(square) = square_of(*row) else {
-            return false;
-        };
-        *bound = coarse(&instance, square);
-    }
-    true
+    write_values(alloc, Measure::CoarseBound, points, squares, bounds)
 }
 
 /// Writes the fine bound of each square, and answers whether the rows make an instance and squares.
@@ -64,16 +65,7 @@ pub extern "C" fn bsss_bench_fine(
     squares: &[SquareRow],
     bounds: &mut [i64],
 ) -> bool {
-    let Some(instance) = instance_of(alloc, points) else {
-        return false;
-    };
-    for (row, bound) in squares.iter().zip(bounds.iter_mut()) {
-        let Some(square) = square_of(*row) else {
-            return false;
-        };
-        *bound = fine(&instance, square);
-    }
-    true
+    write_values(alloc, Measure::FineBound, points, squares, bounds)
 }
 
 /// Writes the lower cost of the lower left corner of each square, and answers whether the rows make an instance and
@@ -85,17 +77,36 @@ pub extern "C" fn bsss_bench_cost(
     squares: &[SquareRow],
     costs: &mut [i64],
 ) -> bool {
+    write_values(alloc, Measure::LowerCost, points, squares, costs)
+}
+
+/// Writes this measure of each square, and answers whether the rows make an instance and squares.
+fn write_values(
+    alloc: Global,
+    measure: Measure,
+    points: &[PointRow],
+    squares: &[SquareRow],
+    values: &mut [i64],
+) -> bool {
     let Some(instance) = instance_of(alloc, points) else {
         return false;
     };
-    for (row, cost) in squares.iter().zip(costs.iter_mut()) {
+    for (row, value) in squares.iter().zip(values.iter_mut()) {
         let Some(square) = square_of(*row) else {
             return false;
         };
-        let (lower, _) = cost_of(&instance, Site::of(square.x, square.y));
-        *cost = lower;
+        *value = value_of(measure, &instance, square);
     }
     true
+}
+
+/// The measure of a square, in cost units.
+fn value_of(measure: Measure, instance: &Instance, square: Square) -> i64 {
+    match measure {
+        Measure::CoarseBound => coarse(instance, square),
+        Measure::FineBound => fine(instance, square),
+        Measure::LowerCost => cost_of(instance, Site::of(square.x, square.y)).0,
+    }
 }
 
 pub(crate) fn square_of(row: SquareRow) -> Option<Square> {
@@ -136,7 +147,7 @@ fn points_of(alloc: Global, rows: &[PointRow]) -> Option<Vec<DemandPt>>
 }
 
 fn instance_of(alloc: Global, rows: &[PointRow]) -> Option<Instance> {
-    if rows.is_empty() || rows.len() > 4096 {
+    if rows.is_empty() || rows.len() > POINT_LIMIT {
         return None;
     }
     let points = points_of(alloc, rows)?;

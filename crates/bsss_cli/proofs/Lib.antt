@@ -1,6 +1,4 @@
-pub mod OutcomeLemmas
-pub mod GapLemmas
-pub mod SolveLemmas
-pub mod CheckLemmas
-pub mod CompleteLemmas
-mod WordLemmas
+mod OutcomeLemmas
+mod SolveLemmas
+mod CheckLemmas
+mod CommandLemmas

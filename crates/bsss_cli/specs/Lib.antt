@@ -1,4 +1,7 @@
-pub mod Words
 pub mod Texts
-pub mod Jobs
+pub mod Status
 pub mod Outcome
+pub mod Solve
+pub mod Check
+pub mod Make
+pub mod Commands

@@ -1,8 +1,8 @@
 //! The gap asked.
 
-ghost use Rattle.std.specs.Prelude.{◌≡◌, ◌≤◌, ◌*◌, ◌/◌, ◌^◌, pos, ◌≤ℤ◌, unsigned_abs, option_map, MatchOption, ⊤};
+ghost use Rattle.std.specs.Prelude.{◌≡◌, ◌≤◌, ◌*◌, ◌/◌, ◌^◌, pos, ◌≤ℤ◌, unsigned_abs, option_map, IfSome};
 ghost use Rattle.siting_definitions.specs.Sites as sites;
-ghost use Rattle.bsss_cli.specs.Words.{IsGapRule};
+ghost use Rattle.command_line.specs.Command.{IsGapRule};
 
 use site_model::Site;
 use siting_definitions::GapRule;
@@ -11,7 +11,7 @@ use siting_definitions::GapRule;
 /// unless it is fixed.
 pub fn gap_of(rule: GapRule, opening: Option<(Site, i64)>) -> i64
     requires rule { IsGapRule rule }
-    requires opening { MatchOption opening ⊤ (λ o. unsigned_abs o.1 ≤ 2 ^ 62) }
+    requires opening { IfSome opening (λ b. unsigned_abs b.1 ≤ 2 ^ 62) }
     ensures value { result ≡ sites.gap_of rule (option_map (λ o. o.1) opening) }
     ensures least { (pos 0) ≤ℤ result }
     ensures most { result ≤ℤ pos (2 ^ 62) }

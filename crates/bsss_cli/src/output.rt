@@ -1,24 +1,73 @@
-//! What the program writes to its sink: short texts, an instance, an answer.
+//! What the program writes to its sink: short texts, an instance, an answer. Each says a status.
 
 ghost use Rattle.std.specs.Prelude.{◌≡◌, ◌++◌, codes, map};
 ghost use Rattle.port_io.specs.Output.{Wrote, sink_view};
 ghost use Rattle.port_io.specs.Output as outputs;
 ghost use Rattle.siting_definitions.specs.InstanceText.{instance_text};
 ghost use Rattle.siting_definitions.specs.AnswerText.{answer_text};
-ghost use Rattle.certificate.specs.Written.{mark_of};
+ghost use Rattle.discard_log.specs.Nodes.{mark_of};
 ghost use Rattle.bsss_cli.specs.Texts as texts;
 ghost use Rattle.bsss_cli.specs.Texts.{bad_instance, rejected};
+ghost use Rattle.bsss_cli.specs.Status as statuses;
+ghost use Rattle.bsss_cli.specs.Outcome.{Says};
 
+use crate::status::{Status, report, status_of};
+use answer_model::Head;
 use cert_checker::{CheckFault, Differ};
-use certificate::{Head, write_answer};
+use certificate::write_answer;
 use discard_log::NodeList;
 use instance_text::{InstanceFault, write_instance};
 use port_io::{Out, Piece, Sink, WriteFault};
 use site_model::Instance;
 
+/// Writes a text, to say a status.
+pub(crate) fn say<K: Sink>(text: &[u8], status: Status, sink: &mut K) -> Status
+    ensures { Says K.room K.taken K.faults sink.old sink.new status text.now result }
+{
+    report(put_text(text, sink), status)
+}
+
+/// Says which fault an instance text has.
+pub(crate) fn say_bad_instance<K: Sink>(fault: InstanceFault, sink: &mut K) -> Status
+    ensures { Says K.room K.taken K.faults sink.old sink.new
+        (Status.BadInstance fault.number fault.line) (bad_instance fault.number fault.line) result }
+{
+    let status = Status::BadInstance {
+        number: fault.number,
+        line: fault.line,
+    };
+    report(put_bad_instance(fault, sink), status)
+}
+
+/// Says which fault a text has that isn't that of a valid answer.
+pub(crate) fn say_rejected<K: Sink>(fault: CheckFault, sink: &mut K) -> Status
+    ensures { Says K.room K.taken K.faults sink.old sink.new
+        (Status.Rejected fault) (rejected fault) result }
+{
+    report(put_rejected(&fault, sink), Status::Rejected(fault))
+}
+
+/// Writes a made instance.
+pub(crate) fn say_made<K: Sink>(instance: &Instance, sink: &mut K) -> Status
+    ensures { Says K.room K.taken K.faults sink.old sink.new
+        Status.Made (instance_text instance.now) result }
+{
+    report(put_instance(instance, sink), Status::Made)
+}
+
+/// Writes an answer, with the status of its word.
+pub(crate) fn say_answer<K: Sink>(head: &Head, nodes: &NodeList, sink: &mut K) -> Status
+    ensures { Says K.room K.taken K.faults sink.old sink.new (statuses.status_of head.now.word)
+        (answer_text (record { head = head.now; marks = map mark_of nodes.now })) result }
+{
+    let status = status_of(head.word);
+    report(put_answer(head, nodes, sink), status)
+}
+
 /// Writes a text.
-pub(crate) fn put_text<K: Sink>(text: &[u8], sink: &mut K) -> Result<(), WriteFault>
-    ensures { Wrote (sink_view K.room K.taken K.faults sink.old) (sink_view K.room K.taken K.faults sink.new) text.now result }
+fn put_text<K: Sink>(text: &[u8], sink: &mut K) -> Result<(), WriteFault>
+    ensures { Wrote (sink_view K.room K.taken K.faults sink.old)
+        (sink_view K.room K.taken K.faults sink.new) text.now result }
 {
     let mut out = Out::new(sink);
     out.put(text)?;
@@ -26,11 +75,9 @@ pub(crate) fn put_text<K: Sink>(text: &[u8], sink: &mut K) -> Result<(), WriteFa
 }
 
 /// Writes which fault an instance text has.
-pub(crate) fn put_bad_instance<K: Sink>(
-    fault: InstanceFault,
-    sink: &mut K,
-) -> Result<(), WriteFault>
-    ensures { Wrote (sink_view K.room K.taken K.faults sink.old) (sink_view K.room K.taken K.faults sink.new)
+fn put_bad_instance<K: Sink>(fault: InstanceFault, sink: &mut K) -> Result<(), WriteFault>
+    ensures { Wrote (sink_view K.room K.taken K.faults sink.old)
+        (sink_view K.room K.taken K.faults sink.new)
         (bad_instance fault.number fault.line) result }
 {
     let mut number = itoa::Buffer::new();
@@ -44,8 +91,9 @@ pub(crate) fn put_bad_instance<K: Sink>(
 }
 
 /// Writes which fault a text has that isn't that of a valid answer.
-pub(crate) fn put_rejected<K: Sink>(fault: &CheckFault, sink: &mut K) -> Result<(), WriteFault>
-    ensures { Wrote (sink_view K.room K.taken K.faults sink.old) (sink_view K.room K.taken K.faults sink.new)
+fn put_rejected<K: Sink>(fault: &CheckFault, sink: &mut K) -> Result<(), WriteFault>
+    ensures { Wrote (sink_view K.room K.taken K.faults sink.old)
+        (sink_view K.room K.taken K.faults sink.new)
         (rejected fault.now) result }
 {
     let mut number = itoa::Buffer::new();
@@ -65,7 +113,8 @@ fn put_fault<'x, K: Sink>(
     line: &'x [u8],
     sink: &mut K,
 ) -> Result<(), WriteFault>
-    ensures { Wrote (sink_view K.room K.taken K.faults sink.old) (sink_view K.room K.taken K.faults sink.new)
+    ensures { Wrote (sink_view K.room K.taken K.faults sink.old)
+        (sink_view K.room K.taken K.faults sink.new)
         (word.now ++ (number.now ++ (codes " line " ++ (line.now ++ codes "\n")))) result }
 {
     let mut out = Out::new(sink);
@@ -86,9 +135,11 @@ fn put_differing<'x, K: Sink>(
     differ: Differ,
     sink: &mut K,
 ) -> Result<(), WriteFault>
-    ensures { Wrote (sink_view K.room K.taken K.faults sink.old) (sink_view K.room K.taken K.faults sink.new)
+    ensures { Wrote (sink_view K.room K.taken K.faults sink.old)
+        (sink_view K.room K.taken K.faults sink.new)
         (codes "rejected " ++ (number.now ++ (codes " line " ++ (line.now
-        ++ (codes " has " ++ (texts.value_text differ.has ++ (codes " wants " ++ (texts.value_text differ.wants ++ codes "\n")))))))) result }
+        ++ (codes " has " ++ (texts.value_text differ.has
+        ++ (codes " wants " ++ (texts.value_text differ.wants ++ codes "\n")))))))) result }
 {
     let mut out = Out::new(sink);
     out.put_pieces(&[
@@ -107,7 +158,7 @@ fn put_differing<'x, K: Sink>(
 
 /// A value, or the word `none`.
 fn value_piece(value: Option<i64>) -> Piece<'static>
-    ensures { outputs.text_of result ≡ texts.value_text value }
+    ensures { outputs.piece_text result ≡ texts.value_text value }
 {
     match value {
         None => Piece::Text(b"none"),
@@ -116,8 +167,9 @@ fn value_piece(value: Option<i64>) -> Piece<'static>
 }
 
 /// Writes the canonical text of an instance.
-pub(crate) fn put_instance<K: Sink>(instance: &Instance, sink: &mut K) -> Result<(), WriteFault>
-    ensures { Wrote (sink_view K.room K.taken K.faults sink.old) (sink_view K.room K.taken K.faults sink.new)
+fn put_instance<K: Sink>(instance: &Instance, sink: &mut K) -> Result<(), WriteFault>
+    ensures { Wrote (sink_view K.room K.taken K.faults sink.old)
+        (sink_view K.room K.taken K.faults sink.new)
         (instance_text instance.now) result }
 {
     let mut out = Out::new(sink);
@@ -126,12 +178,9 @@ pub(crate) fn put_instance<K: Sink>(instance: &Instance, sink: &mut K) -> Result
 }
 
 /// Writes an answer.
-pub(crate) fn put_answer<K: Sink>(
-    head: &Head,
-    nodes: &NodeList,
-    sink: &mut K,
-) -> Result<(), WriteFault>
-    ensures { Wrote (sink_view K.room K.taken K.faults sink.old) (sink_view K.room K.taken K.faults sink.new)
+fn put_answer<K: Sink>(head: &Head, nodes: &NodeList, sink: &mut K) -> Result<(), WriteFault>
+    ensures { Wrote (sink_view K.room K.taken K.faults sink.old)
+        (sink_view K.room K.taken K.faults sink.new)
         (answer_text (record { head = head.now; marks = map mark_of nodes.now })) result }
 {
     let mut out = Out::new(sink);

@@ -1,7 +1,7 @@
 //! How the program ends.
 
 ghost use Rattle.std.specs.Prelude.{◌≡◌};
-ghost use Rattle.bsss_cli.specs.Outcome.{code_of, status_of, reported};
+ghost use Rattle.bsss_cli.specs.Status.{code_of, status_of, reported};
 
 use cert_checker::CheckFault;
 use port_io::WriteFault;

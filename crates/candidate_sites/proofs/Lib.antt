@@ -1,2 +1,3 @@
-pub mod Cheapest
-pub mod CentreLemmas
+mod CheapestLemmas
+mod OpeningLemmas
+mod CentreLemmas

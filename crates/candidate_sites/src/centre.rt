@@ -7,8 +7,8 @@ ghost use Rattle.siting_definitions.specs.Answer.{IsSite};
 ghost use Rattle.siting_definitions.specs.Permitted.{permits};
 ghost use Rattle.siting_definitions.specs.Sites.{centre_cost, centre_site_of};
 
+use crate::site::site_at;
 use dyadic_square::Square;
-use exact_geometry::Pt;
 use objectives::cost_of;
 use site_model::{Instance, Site};
 
@@ -30,12 +30,4 @@ pub fn centre_site(instance: &Instance, sq: Square) -> Option<(Site, i64)>
     let site = site_at(centre);
     let cost = cost_of(instance, site).1;
     Some((site, cost))
-}
-
-/// The site at a grid point.
-fn site_at(pt: Pt) -> Site
-    requires { IsSite pt }
-    ensures { result ≡ pt }
-{
-    Site::of(pt.x, pt.y)
 }

@@ -1,13 +1,13 @@
 //! The sites that a search tries: the cheapest permitted vertex of a polygon, and the centre of a square.
 #![tactic(auto)]
 
-mod best_vertex;
 mod centre;
+mod cheapest;
 mod laws;
-
-pub use best_vertex::opening;
-pub use centre::centre_site;
-pub use laws::the_opening_is_the_first_of_least_cost;
-
+mod site;
 #[cfg(test)]
 mod tests;
+
+pub use centre::centre_site;
+pub use cheapest::opening;
+pub use laws::the_opening_is_the_first_of_least_cost;

@@ -1,2 +1,2 @@
-pub mod Draws
-pub mod Squares
+mod Draws
+mod Squares

@@ -73,6 +73,7 @@ IsPlace-four : (a b c d : Place) → IsPlace a → IsPlace b → IsPlace c → I
 IsPlace-four a b c d first second third fourth =
     All-cons IsPlace a (b ∷ c ∷ d ∷ []) first (All-cons IsPlace b (c ∷ d ∷ []) second (All-cons IsPlace c (d ∷ []) third (All-cons IsPlace d [] fourth (All-nil IsPlace))))
 
+-- a square within the limits is a polygon
 pub IsPolygon-square : (low high : ℕ) → low < high → high ≤ 1000000 → IsPolygon (square low high)
 IsPolygon-square low high order small =
     let low_small : low ≤ 1000000 = omega arith in
@@ -84,6 +85,7 @@ IsPolygon-square low high order small =
       convex = IsConvex-square low high order;
     }
 
+-- what is built of a polygon is the polygon
 pub built_is : (vs us : List Place) → IsPolygon vs → us ≡ turned vs → us ≡ vs
 built_is vs us polygon built = built ∙ turned_is vs polygon
 
@@ -95,6 +97,7 @@ no_dent vs i j polygon first =
     let beside = dent.beside in
     absurd (omega (arith, ints))
 
+-- the corners that the code makes are those of the square
 pub corners_are : (low high : ℕ) (a b c d : Place) → low < high → high ≤ 1000000 → a ≡ record { x = to_z w32 low; y = to_z w32 low } → b ≡ record { x = to_z w32 high; y = to_z w32 low } → c ≡ record { x = to_z w32 high; y = to_z w32 high } → d ≡ record { x = to_z w32 low; y = to_z w32 high } → (a ∷ b ∷ c ∷ d ∷ []) ≡ square low high
 corners_are low high a b c d order small first second third fourth =
     let near : to_z w32 low ≡ pos low = to_z_pos w32 low (omega arith) in

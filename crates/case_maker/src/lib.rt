@@ -1,4 +1,4 @@
-//! Made instances: from a seed, instances of any size for tests and trials.
+//! Made instances: from a seed, instances of any size for tests and trials, and one small instance for tests.
 #![tactic(auto)]
 
 mod instance;
@@ -6,7 +6,7 @@ mod memory;
 mod points;
 mod square;
 
-pub use instance::make_instance;
+pub use instance::{make_instance, one_town};
 pub use memory::NoMemory;
 
 #[cfg(test)]
@@ -47,6 +47,22 @@ mod tests {
         ];
         is_one(&rt, instance.permitted(), &large);
         is_one(&rt, instance.forbidden(), &small);
+    }
+
+    #[test]
+    fn one_town_in_a_square(rt: HostRuntime) {
+        let instance = one_town(rt.alloc()).expect(&rt, "memory");
+        assert_eq!(rt; instance.kind(), Kind::Sum);
+        assert_eq!(rt; instance.points().len(), 1);
+        assert_eq!(rt; instance.points()[0], DemandPt::of(2, 2, 1, None));
+        let square = [
+            Place::of(0, 0),
+            Place::of(4, 0),
+            Place::of(4, 4),
+            Place::of(0, 4),
+        ];
+        is_one(&rt, instance.permitted(), &square);
+        assert_eq!(rt; instance.forbidden().len(), 0);
     }
 
     #[test]

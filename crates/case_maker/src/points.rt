@@ -2,6 +2,7 @@
 
 ghost use Rattle.std.specs.Prelude.{◌≡◌, ◌≤◌, ◌+◌, ◌*◌, ℕ, map, IfOk};
 ghost use Rattle.std.specs.List.{range_with_len};
+ghost use Rattle.siting_definitions.specs.declared.TheConstants.{POINT_LIMIT, WEIGHT_LIMIT};
 ghost use Rattle.siting_definitions.specs.Instance.{weight};
 ghost use Rattle.case_maker.specs.Made.{state, draw, point_of_draws, made_point};
 
@@ -32,7 +33,8 @@ impl Generator {
     fn point(&mut self) -> DemandPt
         requires { self.old.state ≤ 2147483647 }
         ensures state { self.new.state ≡ state self.old.state 3 }
-        ensures value { result ≡ point_of_draws (draw self.old.state 1) (draw self.old.state 2) (draw self.old.state 3) }
+        ensures value { result ≡ point_of_draws (draw self.old.state 1) (draw self.old.state 2)
+            (draw self.old.state 3) }
         ensures small { self.new.state ≤ 2147483647 }
     {
         let x = 3 * self.draw();
@@ -45,9 +47,9 @@ impl Generator {
 /// The points that a seed makes.
 pub(crate) fn make_points(alloc: Global, seed: u32, count: u32) -> Result<Vec<DemandPt>, AllocError>
     requires seed { seed ≤ 2147483647 }
-    requires many { count ≤ 4096 }
+    requires many { count ≤ POINT_LIMIT }
     ensures points { IfOk result (λ v. v.items ≡ map (made_point seed) (range_with_len 0 count)) }
-    ensures weight { IfOk result (λ v. weight v.items ≤ 16000000) }
+    ensures weight { IfOk result (λ v. weight v.items ≤ WEIGHT_LIMIT) }
 {
     let mut generator = Generator { state: seed };
     let mut points = Vec::new(alloc);

@@ -1,6 +1,7 @@
 //! Making a square polygon.
 
 ghost use Rattle.std.specs.Prelude.{◌≡◌, ◌<◌, ◌≤◌, [], ◌∷◌, IfOk};
+ghost use Rattle.siting_definitions.specs.declared.TheConstants.{COORDINATE_LIMIT};
 ghost use Rattle.case_maker.specs.Made.{square};
 
 use crate::memory::NoMemory;
@@ -11,7 +12,7 @@ use std::alloc::{AllocError, Global};
 /// A list of one square, from (low, low) to (high, high), in lengths.
 pub(crate) fn one_square(alloc: Global, low: u32, high: u32) -> Result<Vec<Polygon>, NoMemory>
     requires order { low < high }
-    requires high { high ≤ 1000000 }
+    requires high { high ≤ COORDINATE_LIMIT }
     ensures { IfOk result (λ v. v.items ≡ square low high ∷ []) }
 {
     let square = make_square(alloc, low, high)?;
@@ -22,7 +23,7 @@ pub(crate) fn one_square(alloc: Global, low: u32, high: u32) -> Result<Vec<Polyg
 /// The square from (low, low) to (high, high), in lengths.
 fn make_square(alloc: Global, low: u32, high: u32) -> Result<Polygon, NoMemory>
     requires order { low < high }
-    requires high { high ≤ 1000000 }
+    requires high { high ≤ COORDINATE_LIMIT }
     ensures { IfOk result (λ p. p ≡ square low high) }
 {
     let (near, far) = (low as i32, high as i32);

@@ -19,6 +19,7 @@ use Rattle.siting_definitions.specs.Tree.{TreeSquare}
 use Rattle.siting_definitions.specs.Marks.{IsAtMost, IsNoneOrAtLeast, IsCalledFor, SeenFits, reaches, leaf_mark, is_split, MarkFits, Tally}
 use Rattle.siting_definitions.specs.Answer.{Best, Head, upper_cost, has_word, IsPriced, HeadFits, WordCounts, CountsFit, EndFits}
 use Rattle.siting_definitions.proofs.Integers.{int_le-true, int_le-false, int_lt-false, le-int_le, lt-int_le, le-int_lt}
+use Rattle.siting_definitions.proofs.MarkLemmas.{shut_leaf, bounded_leaf, floor_leaf, left_leaf}
 use Rattle.cert_checker.specs.declared.faults.CheckFault.{CheckFault}
 use Rattle.cert_checker.specs.Faults.{or_else, unless, best_fault, worse_fault, head_fault_of, is_below, is_uncalled, has_letter, bound_fault, fault_of_mark, mark_fault_of, same_optional, word_counts, counts_fit, end_fault_of}
 use Rattle.cert_checker.specs.Walking.{CanStep}
@@ -92,6 +93,7 @@ worse-none : (i : Instance) (u o : Option ℤ) → (worse_fault i u o ≡ None) 
 worse-none i u None = (λ e. tt, λ h. refl)
 worse-none i u (Some opening) = unless-none _ _ _ (Decides-reaches u opening)
 
+-- a head has no fault exactly where it fits
 pub head-none : (h : Head) → (head_fault_of h ≡ None) ↔ HeadFits h
 unfolding head_fault_of
 head-none h =
@@ -118,6 +120,7 @@ counts-Decides h t =
     (Decides-and _ _ (Decides-leb h.leases h.budget)
     (Decides-and _ _ (Decides-leb h.leases (2 * t.nodes)) (Decides-and _ _ (Decides-leb t.splits h.leases) (word-Decides h t h.word))))
 
+-- the last line has no fault exactly where it fits
 pub end-none : (h : Head) (t : Tally) (line : ℕ) → (end_fault_of h t line ≡ None) ↔ EndFits h t
 unfolding end_fault_of
 end-none h t line =
@@ -146,22 +149,6 @@ split-none i gap u s seen line =
     (λ (f : IsCalledFor i gap u s seen). (f.open_square, (f.level, f.seen)))
 
 -- ---- the finished mark of a leaf
-shut_leaf : (i : Instance) (gap : ℤ) (u : Option ℤ) (s : Square) → is_excluded i s ≡ true → leaf_mark i gap u s ≡ Shut
-unfolding leaf_mark
-shut_leaf i gap u s h = cond-true _ _ _ h
-
-bounded_leaf : (i : Instance) (gap : ℤ) (u : Option ℤ) (s : Square) → is_excluded i s ≡ false → reaches u (fine_of i s +ℤ gap) ≡ true → leaf_mark i gap u s ≡ Bounded (fine_of i s)
-unfolding leaf_mark
-bounded_leaf i gap u s h k = cond-false _ _ _ h ∙ cond-true _ _ _ k
-
-floor_leaf : (i : Instance) (gap : ℤ) (u : Option ℤ) (s : Square) → is_excluded i s ≡ false → reaches u (fine_of i s +ℤ gap) ≡ false → (s.level == 0) ≡ true → leaf_mark i gap u s ≡ FloorMark (fine_of i s)
-unfolding leaf_mark
-floor_leaf i gap u s h k l = cond-false _ _ _ h ∙ cond-false _ _ _ k ∙ cond-true _ _ _ l
-
-left_leaf : (i : Instance) (gap : ℤ) (u : Option ℤ) (s : Square) → is_excluded i s ≡ false → reaches u (fine_of i s +ℤ gap) ≡ false → (s.level == 0) ≡ false → leaf_mark i gap u s ≡ Left (fine_of i s)
-unfolding leaf_mark
-left_leaf i gap u s h k l = cond-false _ _ _ h ∙ cond-false _ _ _ k ∙ cond-false _ _ _ l
-
 -- the finished mark isn't that of a split square, and has no fault
 bound_clean : (i : Instance) (gap : ℤ) (u : Option ℤ) (s : Square) (m : Mark) (line : ℕ) → is_excluded i s ≡ false → has_letter gap u s (fine_of i s) m ≡ true → bound_fault i gap u s (fine_of i s) m line ≡ None
 bound_clean i gap u s m line h letter =
@@ -169,9 +156,11 @@ bound_clean i gap u s m line h letter =
     (or_else-none _ _ _ _ (unless-none _ _ _ (Decides-int_eq (fine_of i s) (fine_of i s))) (unless-none _ _ _ (Decides-true (has_letter gap u s (fine_of i s) m))))).1
     (h, (refl, letter))
 
+-- no split, and without a fault
 abbrev pub IsClean : Instance → ℤ → Option ℤ → Square → ℕ → Mark → Type 0
 IsClean i gap u s line m = (is_split m ≡ false) × (fault_of_mark i gap u s m line ≡ None)
 
+-- the finished mark of a leaf is clean
 pub leaf_clean : (i : Instance) (gap : ℤ) (u : Option ℤ) (s : Square) (line : ℕ) → IsClean i gap u s line (leaf_mark i gap u s)
 leaf_clean i gap u s line = by_tests (cases_Bool (is_excluded i s)) (cases_Bool (reaches u (fine_of i s +ℤ gap))) (cases_Bool (s.level == 0))
   where
@@ -218,6 +207,7 @@ leaf-none h s m line leaf =
     let u = upper_cost h.best in
     (leaf_is i h.gap u s m line leaf, λ e. subst (λ (k : Mark). fault_of_mark i h.gap u s k line ≡ None) (sym e) (leaf_clean i h.gap u s line).1)
 
+-- a mark has no fault exactly where it fits
 pub mark-none : (h : Head) (s : Square) (m : Mark) (line : ℕ) → (mark_fault_of h s m line ≡ None) ↔ MarkFits h.instance h.gap (upper_cost h.best) (marked_square s m) m
 unfolding mark_fault_of
 mark-none h s (Split seen) line = split-none h.instance h.gap (upper_cost h.best) s seen line
@@ -227,6 +217,7 @@ mark-none h s (FloorMark b) line = leaf-none h s (FloorMark b) line refl
 mark-none h s (Left b) line = leaf-none h s (Left b) line refl
 
 -- ---- a split square's level is above 0
+-- a split that fits has a level above 0
 pub fits-level : (i : Instance) (gap : ℤ) (u : Option ℤ) (s : Square) (m : Mark) → MarkFits i gap u (marked_square s m) m → OnTrue (is_split m) (0 < s.level)
 fits-level i gap u s (Split seen) fits = fits.level
 fits-level i gap u s Shut fits = tt
@@ -234,6 +225,7 @@ fits-level i gap u s (Bounded b) fits = tt
 fits-level i gap u s (FloorMark b) fits = tt
 fits-level i gap u s (Left b) fits = tt
 
+-- past a mark without a fault the walk can go on
 pub can_step : (h : Head) (squares : List Square) (s : Square) (m : Mark) (line : ℕ) → slice_get squares 0 ≡ Some s → mark_fault_of h s m line ≡ None → CanStep squares (is_split m)
 can_step h [] s m line first none = absurd (cc)
 can_step h (q ∷ squares) s m line first none =

@@ -10,21 +10,26 @@ use Rattle.siting_definitions.specs.Marks.{Tally, tally_of, lesser, is_split, Ma
 use Rattle.dyadic_square.specs.Walk.{coming_after}
 use Rattle.siting_definitions.specs.Answer.{Head, upper_cost, IsMark, EndFits}
 use Rattle.siting_definitions.specs.AnswerText.{mark_line}
-use Rattle.text_lines.specs.Words.{joined as line_of}
+use Rattle.text_lines.specs.Words.{line_bytes as line_of}
+use Rattle.line_stream.specs.Coming.{Coming}
 use Rattle.certificate.specs.declared.reader.AnswerError.{AnswerError}
 use Rattle.certificate.specs.declared.reader.Item.{Item}
 use Rattle.certificate.specs.declared.reader.Item.TheVariants.{Node, End}
 use Rattle.certificate.specs.Forms.{item_form}
-use Rattle.certificate.specs.HeadReading.{Coming, end_of}
-use Rattle.certificate.specs.Tallies.{joined}
-use Rattle.certificate.proofs.CanonicalForms.{read_node, node_back, read_end, end_back}
-use Rattle.certificate.proofs.TallyLemmas.{tally_of-append}
+use Rattle.certificate.specs.HeadReading.{end_of}
+use Rattle.instance_text.specs.Reading.{and_then}
+use Rattle.siting_definitions.proofs.MarkLemmas.{lesser-assoc}
+use Rattle.answer_model.specs.Tally.{tally_sum}
+use Rattle.certificate.proofs.MarkForms.{read_node, node_back, read_end, end_back}
+use Rattle.answer_model.proofs.TallyLemmas.{tally_of-append}
 use Rattle.cert_checker.specs.declared.faults.CheckFault.{CheckFault}
 use Rattle.cert_checker.specs.declared.faults.CheckError.{CheckError}
 use Rattle.cert_checker.specs.declared.checking.Accepted.{Accepted}
 use Rattle.cert_checker.specs.Faults.{mark_fault_of, end_fault_of}
-use Rattle.cert_checker.specs.Checking.{unless_fault, read_ok, accepted_of, at_end, at_mark, at_item, items_of}
+use Rattle.cert_checker.specs.Checking.{Progress, unless_fault, read_ok, accepted_of, at_end, at_item, items_of, node_fault, take_mark}
+use Rattle.cert_checker.specs.Walking.{squares_after}
 use Rattle.cert_checker.proofs.FaultLemmas.{marked_square, mark-none, end-none}
+use Rattle.cert_checker.proofs.StepLemmas.{progress, take_mark-then}
 use Rattle.cert_checker.proofs.TreeLemmas.{Reads}
 
 -- ---- tallies
@@ -32,25 +37,18 @@ least-none : (a : Option ℤ) → lesser a None ≡ a
 least-none None = refl
 least-none (Some z) = refl
 
-pub joined-nothing : (t : Tally) → joined t (tally_of []) ≡ t
+-- a tally with nothing after it
+pub joined-nothing : (t : Tally) → tally_sum t (tally_of []) ≡ t
 unfolding tally_of
 joined-nothing t = simp add-zero (rw (least-none t.least) refl)
 
-int_min-assoc : (a b c : ℤ) → int_min (int_min a b) c ≡ int_min a (int_min b c)
-int_min-assoc a b c = omega (arith, ints, clamps)
-
-lesser-assoc : (a b c : Option ℤ) → lesser (lesser a b) c ≡ lesser a (lesser b c)
-lesser-assoc None b c = refl
-lesser-assoc (Some a) None c = refl
-lesser-assoc (Some a) (Some b) None = refl
-lesser-assoc (Some a) (Some b) (Some c) = ap Some (int_min-assoc a b c)
-
-joined-assoc : (a b c : Tally) → joined (joined a b) c ≡ joined a (joined b c)
+joined-assoc : (a b c : Tally) → tally_sum (tally_sum a b) c ≡ tally_sum a (tally_sum b c)
 joined-assoc a b c =
     rw (add_assoc a.nodes b.nodes c.nodes, add_assoc a.splits b.splits c.splits, add_assoc a.leaves b.leaves c.leaves, add_assoc a.open_leaves b.open_leaves c.open_leaves, add_assoc a.floor_leaves b.floor_leaves c.floor_leaves, lesser-assoc a.least b.least c.least) refl
 
-pub joined-more : (t : Tally) (m : Mark) (ms : List Mark) → joined (joined t (tally_of (m ∷ []))) (tally_of ms) ≡ joined t (tally_of (m ∷ ms))
-joined-more t m ms = joined-assoc t (tally_of (m ∷ [])) (tally_of ms) ∙ ap (joined t) (sym (tally_of-append (m ∷ []) ms))
+-- one mark, and then the others
+pub joined-more : (t : Tally) (m : Mark) (ms : List Mark) → tally_sum (tally_sum t (tally_of (m ∷ []))) (tally_of ms) ≡ tally_sum t (tally_of (m ∷ ms))
+joined-more t m ms = joined-assoc t (tally_of (m ∷ [])) (tally_of ms) ∙ ap (tally_sum t) (sym (tally_of-append (m ∷ []) ms))
 
 -- the lines of marks, with "end" after them
 abbrev pub mark_lines : List Mark → List (List ℕ)
@@ -70,6 +68,7 @@ read_ok-parts : {T : Type 0} (r : Result T AnswerError) (x y : Accepted) → rea
 read_ok-parts (Ok v) x y e = ((v, refl), (let k : x ≡ y = cc in sym k))
 read_ok-parts (Err error) x y e = absurd (cc)
 
+-- where something is said there was no fault before it
 pub unless-parts : {T : Type 0} (o : Option CheckFault) (r : Result T CheckError) (x : T) → unless_fault o r ≡ Ok x → (o ≡ None) × (r ≡ Ok x)
 unless-parts None r x e = (refl, e)
 unless-parts (Some fault) r x e = absurd (cc)
@@ -81,12 +80,12 @@ pub record AreAccepted (h : Head) (squares : List Square) (t : Tally) (partial :
   pub lines_are : lines ≡ mark_lines marks
   pub ranges : All IsMark marks
   pub reads : Reads h.instance h.gap (upper_cost h.best) squares marks
-  pub end_fits : EndFits h (joined t (tally_of marks))
+  pub end_fits : EndFits h (tally_sum t (tally_of marks))
   pub no_partial : partial ≡ []
   pub stops : goes_on ≡ false
-  pub same : x ≡ accepted_of h (joined t (tally_of marks))
+  pub same : x ≡ accepted_of h (tally_sum t (tally_of marks))
 
-ends : (h : Head) (squares : List Square) (t : Tally) (r : Coming) (line : List ℕ) (x : Accepted) → line ≡ codes "end" → at_end h squares t r ≡ Ok x → AreAccepted h squares t r.input.partial r.input.goes_on (line ∷ r.input.lines) x
+ends : (h : Head) (squares : List Square) (t : Tally) (r : Coming) (line : List ℕ) (x : Accepted) → line ≡ codes "end" → at_end h (progress squares t) r ≡ Ok x → AreAccepted h squares t r.input.partial r.input.goes_on (line ∷ r.input.lines) x
 ends h (s ∷ squares) t r line x is e = absurd (cc)
 ends h [] t r line x is e =
     let parts = unless-parts (end_fault_of h t r.line) (read_ok (end_of r) (λ _. Ok (accepted_of h t))) x e in
@@ -109,17 +108,17 @@ past r lines = record { input = record r.input { lines = lines }; line = r.line 
 
 -- what the lines that are left say
 abbrev Later : Head → Coming → List (List ℕ) → Accepted → Type 0
-Later h r lines x = (squares : List Square) (t : Tally) → items_of h squares t (past r lines) lines ≡ Ok x → AreAccepted h squares t r.input.partial r.input.goes_on lines x
+Later h r lines x = (squares : List Square) (t : Tally) → items_of h (progress squares t) (past r lines) lines ≡ Ok x → AreAccepted h squares t r.input.partial r.input.goes_on lines x
 
-more_items : Head → Coming → List (List ℕ) → List Square → Tally → Result Accepted CheckError
-more_items h r lines squares t = items_of h squares t (past r lines) lines
+more_items : Head → Coming → List (List ℕ) → Progress → Result Accepted CheckError
+more_items h r lines p = items_of h p (past r lines) lines
 
-one_mark : (h : Head) (squares : List Square) (t : Tally) (r : Coming) (line : List ℕ) (lines : List (List ℕ)) (m : Mark) (x : Accepted) → IsMark m × (line ≡ line_of (mark_line m)) → Later h r lines x → at_mark h squares t (past r lines) (more_items h r lines) m ≡ Ok x → AreAccepted h squares t r.input.partial r.input.goes_on (line ∷ lines) x
+one_mark : (h : Head) (squares : List Square) (t : Tally) (r : Coming) (line : List ℕ) (lines : List (List ℕ)) (m : Mark) (x : Accepted) → IsMark m × (line ≡ line_of (mark_line m)) → Later h r lines x → unless_fault (node_fault h squares m (r.line + 1)) (more_items h r lines (progress (squares_after squares (is_split m)) (tally_sum t (tally_of (m ∷ []))))) ≡ Ok x → AreAccepted h squares t r.input.partial r.input.goes_on (line ∷ lines) x
 unfolding more_items
 one_mark h [] t r line lines m x is later e = absurd (cc)
 one_mark h (s ∷ squares) t r line lines m x is later e =
-    let parts = unless-parts (mark_fault_of h s m (r.line + 1)) (more_items h r lines (coming_after s (is_split m) squares) (joined t (tally_of (m ∷ [])))) x e in
-    let rest = later (coming_after s (is_split m) squares) (joined t (tally_of (m ∷ []))) parts.1 in
+    let parts = unless-parts (mark_fault_of h s m (r.line + 1)) (more_items h r lines (progress (coming_after s (is_split m) squares) (tally_sum t (tally_of (m ∷ []))))) x e in
+    let rest = later (coming_after s (is_split m) squares) (tally_sum t (tally_of (m ∷ []))) parts.1 in
     record {
       marks = m ∷ rest.marks;
       lines_are = ap (λ l. l ∷ lines) is.1 ∙ ap (λ ls. line_of (mark_line m) ∷ ls) rest.lines_are;
@@ -131,42 +130,44 @@ one_mark h (s ∷ squares) t r line lines m x is later e =
       same = rest.same ∙ ap (accepted_of h) (joined-more t m rest.marks);
     }
 
-one_item : (h : Head) (squares : List Square) (t : Tally) (r : Coming) (line : List ℕ) (lines : List (List ℕ)) (x : Accepted) → Later h r lines x → (o : Option Item) → item_form line ≡ o → at_item h squares t (past r lines) (more_items h r lines) o ≡ Ok x → AreAccepted h squares t r.input.partial r.input.goes_on (line ∷ lines) x
+one_item : (h : Head) (squares : List Square) (t : Tally) (r : Coming) (line : List ℕ) (lines : List (List ℕ)) (x : Accepted) → Later h r lines x → (o : Option Item) → item_form line ≡ o → at_item h (progress squares t) (past r lines) (more_items h r lines) o ≡ Ok x → AreAccepted h squares t r.input.partial r.input.goes_on (line ∷ lines) x
 one_item h squares t r line lines x later None form e = absurd (cc)
-one_item h squares t r line lines x later (Some (Node m)) form e = one_mark h squares t r line lines m x (read_node line m form) later e
+one_item h squares t r line lines x later (Some (Node m)) form e =
+    one_mark h squares t r line lines m x (read_node line m form) later (sym (take_mark-then h (progress squares t) (r.line + 1) m (more_items h r lines)) ∙ e)
 one_item h squares t r line lines x later (Some End) form e = ends h squares t (past r lines) line x (read_end line form) e
 
 -- lines without a fault are those of marks that fit
-pub accepted-lines : (h : Head) (squares : List Square) (t : Tally) (r : Coming) (lines : List (List ℕ)) (x : Accepted) → items_of h squares t r lines ≡ Ok x → AreAccepted h squares t r.input.partial r.input.goes_on lines x
+pub accepted-lines : (h : Head) (squares : List Square) (t : Tally) (r : Coming) (lines : List (List ℕ)) (x : Accepted) → items_of h (progress squares t) r lines ≡ Ok x → AreAccepted h squares t r.input.partial r.input.goes_on lines x
 unfolding more_items
 accepted-lines h squares t r [] x e = absurd (cc)
 accepted-lines h squares t r (line ∷ lines) x e =
     one_item h squares t r line lines x (λ later tally k. accepted-lines h later tally (past r lines) lines x k) (item_form line) refl e
 
 -- ---- from marks to lines
-mark_accepted : (h : Head) (s : Square) (squares : List Square) (t : Tally) (r : Coming) (m : Mark) (more : List Square → Tally → Result Accepted CheckError) → MarkFits h.instance h.gap (upper_cost h.best) (marked_square s m) m → at_mark h (s ∷ squares) t r more m ≡ more (coming_after s (is_split m) squares) (joined t (tally_of (m ∷ [])))
+mark_accepted : (h : Head) (s : Square) (squares : List Square) (t : Tally) (r : Coming) (m : Mark) (more : Progress → Result Accepted CheckError) → MarkFits h.instance h.gap (upper_cost h.best) (marked_square s m) m → and_then (take_mark h r.line m (progress (s ∷ squares) t)) more ≡ more (progress (coming_after s (is_split m) squares) (tally_sum t (tally_of (m ∷ []))))
 mark_accepted h s squares t r m more fits =
-    ap (λ (o : Option CheckFault). unless_fault o (more (coming_after s (is_split m) squares) (joined t (tally_of (m ∷ []))))) ((mark-none h s m r.line).1 fits)
+    take_mark-then h (progress (s ∷ squares) t) r.line m more
+    ∙ ap (λ (o : Option CheckFault). unless_fault o (more (progress (coming_after s (is_split m) squares) (tally_sum t (tally_of (m ∷ [])))))) ((mark-none h s m r.line).1 fits)
 
-end_accepted : (h : Head) (t : Tally) (partial : List ℕ) (goes_on : Bool) (line : ℕ) → EndFits h t → partial ≡ [] → goes_on ≡ false → at_end h [] t (record { input = record { lines = []; partial = partial; goes_on = goes_on }; line = line }) ≡ Ok (accepted_of h t)
+end_accepted : (h : Head) (t : Tally) (partial : List ℕ) (goes_on : Bool) (line : ℕ) → EndFits h t → partial ≡ [] → goes_on ≡ false → at_end h (progress [] t) (record { input = record { lines = []; partial = partial; goes_on = goes_on }; line = line }) ≡ Ok (accepted_of h t)
 end_accepted h t partial goes_on line fits no_partial stops =
     ap (λ (o : Option CheckFault). unless_fault o (read_ok (end_of (record { input = record { lines = []; partial = partial; goes_on = goes_on }; line = line })) (λ _. Ok (accepted_of h t)))) ((end-none h t line).1 fits)
     ∙ rw (no_partial, stops) refl
 
 -- lines of marks that fit have no fault
-pub lines-accepted : (h : Head) (squares : List Square) (t : Tally) (r : Coming) (ms : List Mark) → Reads h.instance h.gap (upper_cost h.best) squares ms → All IsMark ms → EndFits h (joined t (tally_of ms)) → r.input.partial ≡ [] → r.input.goes_on ≡ false → items_of h squares t r (mark_lines ms) ≡ Ok (accepted_of h (joined t (tally_of ms)))
+pub lines-accepted : (h : Head) (squares : List Square) (t : Tally) (r : Coming) (ms : List Mark) → Reads h.instance h.gap (upper_cost h.best) squares ms → All IsMark ms → EndFits h (tally_sum t (tally_of ms)) → r.input.partial ≡ [] → r.input.goes_on ≡ false → items_of h (progress squares t) r (mark_lines ms) ≡ Ok (accepted_of h (tally_sum t (tally_of ms)))
 lines-accepted h [] t r [] reads ranges fits no_partial stops =
     let fits_t = subst (EndFits h) (joined-nothing t) fits in
-    ap (λ (o : Option Item). at_item h [] t (past r []) (λ coming tally. items_of h coming tally (past r []) []) o) (end_back (codes "end") refl)
+    ap (λ (o : Option Item). at_item h (progress [] t) (past r []) (λ next. items_of h next (past r []) []) o) (end_back (codes "end") refl)
     ∙ (end_accepted h t r.input.partial r.input.goes_on (r.line + 1) fits_t no_partial stops ∙ ap (λ (k : Tally). Ok (accepted_of h k)) (sym (joined-nothing t)))
 lines-accepted h (s ∷ squares) t r [] reads ranges fits no_partial stops = absurd reads
 lines-accepted h [] t r (m ∷ ms) reads ranges fits no_partial stops = absurd reads
 lines-accepted h (s ∷ squares) t r (m ∷ ms) reads ranges fits no_partial stops =
     let lines = mark_lines ms in
-    let next = joined t (tally_of (m ∷ [])) in
+    let next = tally_sum t (tally_of (m ∷ [])) in
     let form = node_back m (All-head IsMark m ms ranges) in
     let fits_more = subst (EndFits h) (sym (joined-more t m ms)) fits in
-    ap (λ (o : Option Item). at_item h (s ∷ squares) t (past r lines) (λ coming tally. items_of h coming tally (past r lines) lines) o) form
-    ∙ (mark_accepted h s squares t (past r lines) m (λ coming tally. items_of h coming tally (past r lines) lines) reads.0
+    ap (λ (o : Option Item). at_item h (progress (s ∷ squares) t) (past r lines) (λ next. items_of h next (past r lines) lines) o) form
+    ∙ (mark_accepted h s squares t (past r lines) m (λ next. items_of h next (past r lines) lines) reads.0
     ∙ (lines-accepted h (coming_after s (is_split m) squares) next (past r lines) ms reads.1 (All-tail IsMark m ms ranges) fits_more no_partial stops
     ∙ ap (λ (k : Tally). Ok (accepted_of h k)) (joined-more t m ms)))

@@ -1,6 +1,7 @@
-pub mod FaultLemmas
+mod FaultLemmas
 mod StepLemmas
 mod CheckLemmas
 mod TreeLemmas
 mod ItemLemmas
+mod CutLemmas
 pub mod ValidLemmas

@@ -9,7 +9,8 @@ use Rattle.siting_definitions.specs.Tree.{Tree, TreeSquare, preorder}
 use Rattle.siting_definitions.specs.Marks.{is_split, SplitFits, MarkFits, MarksFit, AreMarks}
 use Rattle.dyadic_square.specs.Walk.{Walks, coming_after}
 use Rattle.dyadic_square.proofs.Walks.{walk-preorder, tree-walk}
-use Rattle.cert_checker.proofs.FaultLemmas.{marked_square, fits-level, leaf_clean}
+use Rattle.answer_model.proofs.NodesLemmas.{same_split}
+use Rattle.cert_checker.proofs.FaultLemmas.{marked_square, fits-level}
 
 -- each mark fits the square that comes next, and nothing is to come at the end
 abbrev pub Reads : Instance → ℤ → Option ℤ → List Square → List Mark → Type 0
@@ -38,18 +39,6 @@ reads-tree i gap u root ms reads =
     let walk = reads-walk i gap u (root ∷ []) ms reads in
     let tree = tree-walk root (squares_read (root ∷ []) ms) walk.0 in
     (tree.0, (tree.1, subst (λ (ts : List TreeSquare). MarksFit i gap u ts ms) tree.2 walk.1))
-
--- a mark that fits is that of a split square where the square is split
-split_fits : (i : Instance) (gap : ℤ) (u : Option ℤ) (s : Square) (m : Mark) → SplitFits i gap u s m → is_split m ≡ true
-split_fits i gap u s (Split v) fits = refl
-split_fits i gap u s Shut fits = absurd fits
-split_fits i gap u s (Bounded b) fits = absurd fits
-split_fits i gap u s (FloorMark b) fits = absurd fits
-split_fits i gap u s (Left b) fits = absurd fits
-
-same_split : (i : Instance) (gap : ℤ) (u : Option ℤ) (s : Square) (b : Bool) (m : Mark) → MarkFits i gap u (record { square = s; is_split = b }) m → is_split m ≡ b
-same_split i gap u s true m fits = split_fits i gap u s m fits
-same_split i gap u s false m fits = ap is_split fits ∙ (leaf_clean i gap u s 0).0
 
 one_read : (i : Instance) (gap : ℤ) (u : Option ℤ) (s q : Square) (b : Bool) (squares : List Square) (m : Mark) (ms : List Mark) → q ≡ s → MarkFits i gap u (record { square = q; is_split = b }) m → Reads i gap u (coming_after s b squares) ms → Reads i gap u (s ∷ squares) (m ∷ ms)
 one_read i gap u s q b squares m ms e fits later =

@@ -4,24 +4,26 @@ use Rattle.siting_definitions.specs.Sites.{root_of}
 use Rattle.siting_definitions.specs.Marks.{Tally, tally_of}
 use Rattle.siting_definitions.specs.Answer.{Head, Answer, IsValid, EndFits, upper_cost}
 use Rattle.siting_definitions.specs.AnswerText.{answer_text}
+use Rattle.line_stream.specs.Coming.{Coming}
 use Rattle.certificate.specs.declared.reader.AnswerError.{AnswerError}
-use Rattle.certificate.specs.HeadReading.{Coming, answer_limit, coming_of, head_reading}
-use Rattle.certificate.specs.Tallies.{joined}
-use Rattle.certificate.proofs.InputLemmas.{are_feedless-input_of}
-use Rattle.certificate.proofs.HeadLemmas.{read_head, text_is, text_comes}
+use Rattle.certificate.specs.HeadReading.{answer_limit, coming_of, head_reading}
+use Rattle.answer_model.specs.Tally.{tally_sum}
+use Rattle.line_stream.proofs.InputLemmas.{are_feedless-input_of}
+use Rattle.certificate.proofs.HeadLemmas.{read_head}
+use Rattle.certificate.proofs.AnswerTextLemmas.{text_is, text_comes}
 use Rattle.certificate.proofs.LengthLemmas.{valid-length}
 use Rattle.cert_checker.specs.declared.faults.CheckFault.{CheckFault}
 use Rattle.cert_checker.specs.declared.faults.CheckError.{CheckError}
 use Rattle.cert_checker.specs.declared.checking.Accepted.{Accepted}
 use Rattle.cert_checker.specs.Faults.{head_fault_of}
-use Rattle.cert_checker.specs.Checking.{unless_fault, read_ok, accepted_of, items_of, after_head, checking}
+use Rattle.cert_checker.specs.Checking.{unless_fault, read_ok, accepted_of, items_of, after_head, checking, start_of}
 use Rattle.cert_checker.specs.Steps.{after_root}
 use Rattle.cert_checker.proofs.FaultLemmas.{head-none}
 use Rattle.cert_checker.proofs.TreeLemmas.{reads-tree, tree-reads}
 use Rattle.cert_checker.proofs.ItemLemmas.{mark_lines, unless-parts, accepted-lines, lines-accepted}
 
 -- ---- the tally begins with nothing
-nothing-joined : (t : Tally) → joined (tally_of []) t ≡ t
+nothing-joined : (t : Tally) → tally_sum (tally_of []) t ≡ t
 unfolding tally_of
 nothing-joined t = simp zero-add refl
 
@@ -63,6 +65,7 @@ from_head bytes x h rest is said =
       same = items.same ∙ ap (accepted_of h) counted;
     }
 
+-- a text that is accepted is that of a valid answer
 pub accepted-valid : (bytes : List ℕ) (x : Accepted) → checking bytes ≡ Ok x → (a : Answer) × IsValid a × (bytes ≡ answer_text a) × (x ≡ accepted_of a.head (tally_of a.marks))
 unfolding checking
 accepted-valid bytes x e =
@@ -78,10 +81,11 @@ after_head-valid a rest valid lines partial stops =
     let reads = tree-reads h.instance h.gap (upper_cost h.best) (root_of h.instance) a.marks valid.tree.0 valid.tree.1 in
     let fits = subst (EndFits h) (sym counted) valid.end_fits in
     ap (λ (o : Option CheckFault). unless_fault o (after_root h rest)) ((head-none h).1 valid.head)
-    ∙ (ap (λ ls. items_of h (root_of h.instance ∷ []) (tally_of []) rest ls) lines
+    ∙ (ap (λ ls. items_of h (start_of h) rest ls) lines
     ∙ (lines-accepted h (root_of h.instance ∷ []) (tally_of []) rest a.marks reads valid.mark_ranges fits partial stops
     ∙ ap (λ (t : Tally). Ok (accepted_of h t)) counted))
 
+-- the text of a valid answer is accepted
 pub valid-accepted : (a : Answer) → IsValid a → checking (answer_text a) ≡ Ok (accepted_of a.head (tally_of a.marks))
 unfolding checking
 valid-accepted a valid =

@@ -4,70 +4,114 @@ use Rattle.siting_definitions.specs.declared.Mark.{Mark}
 use Rattle.siting_definitions.specs.Square.{Square}
 use Rattle.siting_definitions.specs.Sites.{root_of}
 use Rattle.siting_definitions.specs.Marks.{Tally, is_split, tally_of}
-use Rattle.siting_definitions.specs.Answer.{Best, Head}
-use Rattle.dyadic_square.specs.Walk.{coming_after}
+use Rattle.siting_definitions.specs.Answer.{Head}
+use Rattle.instance_text.specs.Reading.{and_then}
+use Rattle.line_stream.specs.Coming.{Coming}
 use Rattle.certificate.specs.declared.reader.AnswerError.{AnswerError}
 use Rattle.certificate.specs.declared.reader.AnswerError.TheVariants.{Form, Instance as BadInstance, TooLong as TextTooLong, ReadFault as TextReadFault, NoMemory as TextNoMemory}
 use Rattle.certificate.specs.declared.reader.Item.{Item}
 use Rattle.certificate.specs.declared.reader.Item.TheVariants.{Node, End}
 use Rattle.certificate.specs.Forms.{item_form}
-use Rattle.certificate.specs.HeadReading.{Coming, coming_of, missing, head_reading, end_of}
-use Rattle.certificate.specs.Tallies.{joined}
+use Rattle.certificate.specs.HeadReading.{coming_of, missing, head_reading, end_of}
+use Rattle.answer_model.specs.Head.{parts_of}
+use Rattle.answer_model.specs.Tally.{tally_sum}
 use Rattle.cert_checker.specs.declared.faults.TheConstants.{FORM, INSTANCE, TREE_SHORT, TREE_LONG}
 use Rattle.cert_checker.specs.declared.faults.CheckFault.{CheckFault}
 use Rattle.cert_checker.specs.declared.faults.CheckError.{CheckError}
 use Rattle.cert_checker.specs.declared.faults.CheckError.TheVariants.{Fault, ReadFault, TooLong, NoMemory}
 use Rattle.cert_checker.specs.declared.checking.Accepted.{Accepted}
-use Rattle.cert_checker.specs.Faults.{plain, head_fault_of, mark_fault_of, end_fault_of}
+use Rattle.cert_checker.specs.Faults.{fault_at, head_fault_of, mark_fault_of, end_fault_of}
+use Rattle.cert_checker.specs.Walking.{squares_after}
 
 -- the error of a checker, of that of a reader
 abbrev pub error_of : AnswerError → CheckError
-error_of (Form line) = Fault (plain FORM line)
-error_of BadInstance = Fault (plain INSTANCE 2)
+error_of (Form line) = Fault (fault_at FORM line)
+error_of BadInstance = Fault (fault_at INSTANCE 2)
 error_of TextTooLong = TooLong
 error_of TextReadFault = ReadFault
 error_of TextNoMemory = NoMemory
 
 -- what there is to say of the rest, where there is no fault before it
-abbrev pub unless_fault : {T : Type 0} → Option CheckFault → Result T CheckError → Result T CheckError
+abbrev pub unless_fault
+    : {T : Type 0} → Option CheckFault → Result T CheckError → Result T CheckError
 unless_fault None rest = rest
 unless_fault (Some fault) rest = Err (Fault fault)
 
-abbrev pub read_ok : {T U : Type 0} → Result T AnswerError → (T → Result U CheckError) → Result U CheckError
+-- what there is to say of what a reader answered
+abbrev pub read_ok
+    : {T U : Type 0} → Result T AnswerError → (T → Result U CheckError) → Result U CheckError
 read_ok (Ok value) more = more value
 read_ok (Err error) more = Err (error_of error)
 
 -- what an accepted answer says
 abbrev pub accepted_of : Head → Tally → Accepted
-accepted_of h t = record { word = h.word; best = option_map (λ (b : Best). (b.site, b.lower, b.upper)) h.best; bound = h.bound; nodes = t.nodes }
+accepted_of h t =
+    record { word = h.word; best = option_map parts_of h.best; bound = h.bound; nodes = t.nodes }
 
--- at the line "end", with the squares to come and the tally of the marks before it
-abbrev pub at_end : Head → List Square → Tally → Coming → Result Accepted CheckError
-at_end h [] t r = unless_fault (end_fault_of h t r.line) (read_ok (end_of r) (λ _. Ok (accepted_of h t)))
-at_end h (s ∷ squares) t r = Err (Fault (plain TREE_SHORT r.line))
+-- How far a check has come past the head: the squares to come, first the next, and the tally of the
+-- marks so far.
+pub record Progress : Type 0 where
+  pub squares : List Square
+  pub tally : Tally
 
--- at a node line, with what there is to say after it
-abbrev pub at_mark : Head → List Square → Tally → Coming → (List Square → Tally → Result Accepted CheckError) → Mark → Result Accepted CheckError
-at_mark h [] t r more m = Err (Fault (plain TREE_LONG r.line))
-at_mark h (s ∷ squares) t r more m =
-    unless_fault (mark_fault_of h s m r.line) (more (coming_after s (is_split m) squares) (joined t (tally_of (m ∷ []))))
+abbrev pub start_of : Head → Progress
+start_of h = record { squares = root_of h.instance ∷ []; tally = tally_of [] }
 
-abbrev pub at_item : Head → List Square → Tally → Coming → (List Square → Tally → Result Accepted CheckError) → Option Item → Result Accepted CheckError
-at_item h squares t r more None = Err (Fault (plain FORM r.line))
-at_item h squares t r more (Some (Node m)) = at_mark h squares t r more m
-at_item h squares t r more (Some End) = at_end h squares t r
+abbrev pub progress_after : Progress → Mark → Progress
+progress_after p m =
+    record {
+      squares = squares_after p.squares (is_split m);
+      tally = tally_sum p.tally (tally_of (m ∷ []));
+    }
 
--- the lines after the head, with the squares to come, first the next, and the tally of the marks so far
-abbrev pub items_of : Head → List Square → Tally → Coming → List (List ℕ) → Result Accepted CheckError
-items_of h squares t r [] = Err (error_of (missing r.input (r.line + 1)))
-items_of h squares t r (line ∷ lines) =
+-- the fault of a node line with this mark, with the squares to come
+abbrev pub node_fault : Head → List Square → Mark → ℕ → Option CheckFault
+node_fault h [] m line = Some (fault_at TREE_LONG line)
+node_fault h (s ∷ squares) m line = mark_fault_of h s m line
+
+-- one node line, of this number
+abbrev pub take_mark : Head → ℕ → Mark → Progress → Result Progress CheckError
+take_mark h line m p = unless_fault (node_fault h p.squares m line) (Ok (progress_after p m))
+
+-- node lines, of which the first has this number: each in turn, from where the one before left the
+-- check
+abbrev pub take_marks : Head → ℕ → List Mark → Progress → Result Progress CheckError
+take_marks h line [] p = Ok p
+take_marks h line (m ∷ ms) p = and_then (take_mark h line m p) (take_marks h (line + 1) ms)
+
+-- the fault of the line "end", with the squares to come and the tally of the marks before it
+abbrev pub last_fault : Head → List Square → Tally → ℕ → Option CheckFault
+last_fault h [] t line = end_fault_of h t line
+last_fault h (s ∷ squares) t line = Some (fault_at TREE_SHORT line)
+
+abbrev pub at_end : Head → Progress → Coming → Result Accepted CheckError
+at_end h p r =
+    unless_fault (last_fault h p.squares p.tally r.line)
+    (read_ok (end_of r) (λ _. Ok (accepted_of h p.tally)))
+
+-- one line, with what there is to say after a node line
+abbrev pub at_item
+    : Head → Progress → Coming → (Progress → Result Accepted CheckError) → Option Item
+    → Result Accepted CheckError
+at_item h p r more None = Err (Fault (fault_at FORM r.line))
+at_item h p r more (Some (Node m)) = and_then (take_mark h r.line m p) more
+at_item h p r more (Some End) = at_end h p r
+
+-- what a node line of a mark is read as
+abbrev pub node_item : Mark → Option Item
+node_item m = Some (Node m)
+
+-- the lines after the head
+abbrev pub items_of : Head → Progress → Coming → List (List ℕ) → Result Accepted CheckError
+items_of h p r [] = Err (error_of (missing r.input (r.line + 1)))
+items_of h p r (line ∷ lines) =
     let after : Coming = record { input = record r.input { lines = lines }; line = r.line + 1 } in
-    at_item h squares t after (λ coming tally. items_of h coming tally after lines) (item_form line)
+    at_item h p after (λ next. items_of h next after lines) (item_form line)
 
 abbrev pub after_head : Head → Coming → Result Accepted CheckError
-after_head h r = unless_fault (head_fault_of h) (items_of h (root_of h.instance ∷ []) (tally_of []) r r.input.lines)
+after_head h r = unless_fault (head_fault_of h) (items_of h (start_of h) r r.input.lines)
 
--- What a check of these bytes, to their end, says: the answer whose text they are is accepted where it is valid, and else this is their
--- first fault.
+-- What a check of these bytes, to their end, says: the answer whose text they are is accepted where
+-- it is valid, and else this is their first fault.
 unfoldable pub checking : List ℕ → Result Accepted CheckError
 checking bytes = read_ok (head_reading (coming_of bytes)) (λ h. after_head h.0 h.1)

@@ -1,4 +1,4 @@
 pub mod Faults
-pub mod Checking
 pub mod Walking
+pub mod Checking
 pub mod Steps

@@ -1,23 +1,25 @@
 //! Checking an answer.
 
-ghost use Rattle.std.specs.Prelude.{◌≡◌, ◌<◌, ◌≤◌, ◌^◌, ◌∷◌, [], IfSome, IsErrOf, OnOk};
+ghost use Rattle.std.specs.Prelude.{◌≡◌, ◌≤◌, ◌∷◌, [], IfSome, IsErrOf, OnOk};
 ghost use Rattle.std.specs.Result.{result_err};
 ghost use Rattle.port_io.specs.Faults.{Rose};
 ghost use Rattle.siting_definitions.specs.Sites.{opening_cost};
 ghost use Rattle.siting_definitions.specs.Marks as marks;
 ghost use Rattle.siting_definitions.specs.Marks.{tally_of};
 ghost use Rattle.certificate.specs.ReaderView.{coming, source_of, faults_of};
-ghost use Rattle.certificate.specs.Tallies.{joined};
-ghost use Rattle.cert_checker.specs.Checking.{accepted_of, checking};
-ghost use Rattle.cert_checker.specs.Walking.{stepped};
-ghost use Rattle.cert_checker.specs.Steps.{node_fault, last_fault, Answers, ReadsMarks};
+ghost use Rattle.answer_model.specs.Tally.{AreSmall, tally_sum};
+ghost use Rattle.cert_checker.specs.Checking as checks;
+ghost use Rattle.cert_checker.specs.Checking.{checking, node_fault};
+ghost use Rattle.cert_checker.specs.Walking.{squares_after};
+ghost use Rattle.cert_checker.specs.Steps.{ChecksTo, ReadsMarks};
 
-use crate::end::end_fault;
-use crate::faults::{CheckError, CheckFault, TREE_LONG, TREE_SHORT, plain};
-use crate::head::{best_in, opening_or_fault};
+use crate::end::last_fault;
+use crate::faults::{CheckError, CheckFault, TREE_LONG, fault_at};
+use crate::head::opening_or_fault;
 use crate::mark::mark_fault;
 use crate::walk::Walk;
-use certificate::{AnswerReader, Head, Item, Tally, is_split};
+use answer_model::{Head, Tally, is_split};
+use certificate::{AnswerReader, Item};
 use port_io::Source;
 use site_model::Site;
 use siting_definitions::{Mark, Word};
@@ -43,8 +45,10 @@ pub struct Accepted {
 /// it, and else its first fault. `ReadFault` comes only where the source's count of faults rose in this call, and `TooLong` where
 /// 2^30 bytes came without a fault, and more. Only the head takes memory.
 pub fn check<S: Source>(alloc: Global, source: &mut S) -> Result<Accepted, CheckError>
-    ensures answers { IfSome (S.left source.old) (λ bytes. Answers (checking bytes) (S.left source.new) result) }
-    ensures read_fault { IsErrOf result CheckError.ReadFault → Rose (S.faults source.old) (S.faults source.new) }
+    ensures answers { IfSome (S.left source.old)
+        (λ bytes. ChecksTo (checking bytes) (S.left source.new) result) }
+    ensures read_fault { IsErrOf result CheckError.ReadFault
+        → Rose (S.faults source.old) (S.faults source.new) }
     ensures later { S.faults source.old ≤ S.faults source.new }
 {
     let mut reader = AnswerReader::new(source);
@@ -52,16 +56,16 @@ pub fn check<S: Source>(alloc: Global, source: &mut S) -> Result<Accepted, Check
     let opening = opening_or_fault(&head)?;
     let tally = read_marks(&head, opening, &mut reader)?;
     reader.finish()?;
-    Ok(what_is_accepted(&head, &tally))
+    Ok(accepted_of(&head, &tally))
 }
 
 /// What an answer with this head and this tally says.
-fn what_is_accepted(head: &Head, tally: &Tally) -> Accepted
-    ensures { result ≡ accepted_of head.now tally.now }
+pub fn accepted_of(head: &Head, tally: &Tally) -> Accepted
+    ensures { result ≡ checks.accepted_of head.now tally.now }
 {
     Accepted {
         word: head.word,
-        best: best_in(head),
+        best: head.best(),
         bound: head.bound,
         nodes: tally.nodes,
     }
@@ -75,8 +79,10 @@ fn read_marks<S: Source>(
 ) -> Result<Tally, CheckError>
     requires { opening ≡ opening_cost head.now.instance }
     ensures same { source_of reader.new ≡ source_of reader.old }
-    ensures reads { IfSome (coming S.left reader.old) (λ before. ReadsMarks head.now before (coming S.left reader.new) result) }
-    ensures read_fault { IsErrOf result CheckError.ReadFault → Rose (faults_of S.faults reader.old) (faults_of S.faults reader.new) }
+    ensures reads { IfSome (coming S.left reader.old)
+        (λ before. ReadsMarks head.now before (coming S.left reader.new) result) }
+    ensures read_fault { IsErrOf result CheckError.ReadFault
+        → Rose (faults_of S.faults reader.old) (faults_of S.faults reader.new) }
     ensures later { faults_of S.faults reader.old ≤ faults_of S.faults reader.new }
 {
     let mut walk = Walk::begin(head.instance.root());
@@ -111,13 +117,13 @@ fn read_mark(
     line: u64,
 ) -> Result<(), CheckFault>
     requires opening { opening ≡ opening_cost head.now.instance }
-    requires few { tally.old.nodes < 2 ^ 40 }
+    requires few { AreSmall tally.old }
     ensures fault { result_err result ≡ node_fault head.now walk.old mark line }
-    ensures walk { OnOk result (walk.new ≡ stepped walk.old (marks.is_split mark)) }
-    ensures tally { OnOk result (tally.new ≡ joined tally.old (tally_of (mark ∷ []))) }
+    ensures walk { OnOk result (walk.new ≡ squares_after walk.old (marks.is_split mark)) }
+    ensures tally { OnOk result (tally.new ≡ tally_sum tally.old (tally_of (mark ∷ []))) }
 {
     let Some(square) = walk.coming() else {
-        return Err(plain(TREE_LONG, line));
+        return Err(fault_at(TREE_LONG, line));
     };
     if let Some(fault) = mark_fault(head, opening, square, mark, line) {
         return Err(fault);
@@ -129,12 +135,9 @@ fn read_mark(
 
 /// Checks the last line.
 fn read_end(head: &Head, walk: &Walk, tally: &Tally, line: u64) -> Result<(), CheckFault>
-    ensures { result_err result ≡ last_fault head.now walk.now tally.now line }
+    ensures { result_err result ≡ checks.last_fault head.now walk.now tally.now line }
 {
-    if walk.coming().is_some() {
-        return Err(plain(TREE_SHORT, line));
-    }
-    match end_fault(head, tally, line) {
+    match last_fault(head, walk, tally, line) {
         Some(fault) => Err(fault),
         None => Ok(()),
     }

@@ -4,9 +4,24 @@ ghost use Rattle.std.specs.Prelude.{◌≡◌, ◌+◌, ◌*◌, nat_le, nat_lt,
 ghost use Rattle.siting_definitions.specs.Answer as answers;
 ghost use Rattle.cert_checker.specs.Faults as faults;
 ghost use Rattle.cert_checker.specs.Faults.{end_fault_of};
+ghost use Rattle.cert_checker.specs.Checking as checks;
 
-use crate::faults::{CheckFault, LEAST_DIFFERS, WRONG_COUNT, WRONG_WORD, differing, plain};
-use certificate::{Head, Tally, Word};
+use crate::faults::{
+    CheckFault, LEAST_DIFFERS, TREE_SHORT, WRONG_COUNT, WRONG_WORD, fault_at, value_fault,
+};
+use crate::walk::Walk;
+use answer_model::{Head, Tally, Word};
+
+/// The first fault of the last line, with the squares to come and the tally of all marks: a square is to come, or it is that of
+/// `end_fault`. None exactly where there is none.
+pub fn last_fault(head: &Head, walk: &Walk, tally: &Tally, line: u64) -> Option<CheckFault>
+    ensures { result ≡ checks.last_fault head.now walk.now tally.now line }
+{
+    if walk.coming().is_some() {
+        return Some(fault_at(TREE_SHORT, line));
+    }
+    end_fault(head, tally, line)
+}
 
 /// The first fault at the last line, with the tally of all marks: the bound isn't the least of the leaves, the word isn't the one
 /// that the marks call for, or the leases or the open squares don't fit. None exactly where there is none.
@@ -15,13 +30,13 @@ pub fn end_fault(head: &Head, tally: &Tally, line: u64) -> Option<CheckFault>
     ensures { result ≡ end_fault_of head.now tally.now line }
 {
     if !is_same(head.bound, tally.least) {
-        return Some(differing(LEAST_DIFFERS, line, head.bound, tally.least));
+        return Some(value_fault(LEAST_DIFFERS, line, head.bound, tally.least));
     }
     if !has_word(head.word, tally) {
-        return Some(plain(WRONG_WORD, line));
+        return Some(fault_at(WRONG_WORD, line));
     }
     if !counts_fit(head, tally) {
-        return Some(plain(WRONG_COUNT, line));
+        return Some(fault_at(WRONG_COUNT, line));
     }
     None
 }
@@ -85,7 +100,9 @@ fn open_fits(head: &Head, tally: &Tally) -> bool
 
 /// Whether so many open squares fill the pool, so that there was no room for a split, and are no more than the leaves.
 fn is_full(open_count: u32, pool: u32, leaves: u64) -> bool
-    ensures { result ≡ (nat_le 1 open_count && (nat_le open_count pool && (nat_lt pool (open_count + 3) && nat_le open_count leaves))) }
+    ensures { result ≡ (nat_le 1 open_count
+        && (nat_le open_count pool
+        && (nat_lt pool (open_count + 3) && nat_le open_count leaves))) }
 {
     1 <= open_count
         && open_count <= pool

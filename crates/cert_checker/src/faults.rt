@@ -79,8 +79,8 @@ impl From<AnswerError> for CheckError {
 
     fn from(error: AnswerError) -> CheckError {
         match error {
-            AnswerError::Form { line } => CheckError::Fault(plain(FORM, line)),
-            AnswerError::Instance => CheckError::Fault(plain(INSTANCE, 2)),
+            AnswerError::Form { line } => CheckError::Fault(fault_at(FORM, line)),
+            AnswerError::Instance => CheckError::Fault(fault_at(INSTANCE, 2)),
             AnswerError::TooLong => CheckError::TooLong,
             AnswerError::ReadFault => CheckError::ReadFault,
             AnswerError::NoMemory => CheckError::NoMemory,
@@ -97,8 +97,8 @@ impl From<CheckFault> for CheckError {
 }
 
 /// A fault without values.
-pub(crate) fn plain(number: u8, line: u64) -> CheckFault
-    ensures { result ≡ faults.plain number line }
+pub(crate) fn fault_at(number: u8, line: u64) -> CheckFault
+    ensures { result ≡ faults.fault_at number line }
 {
     CheckFault {
         number,
@@ -108,8 +108,8 @@ pub(crate) fn plain(number: u8, line: u64) -> CheckFault
 }
 
 /// A fault of a value that another was wanted for.
-pub(crate) fn differing(number: u8, line: u64, has: Option<i64>, wants: Option<i64>) -> CheckFault
-    ensures { result ≡ faults.differing number line has wants }
+pub(crate) fn value_fault(number: u8, line: u64, has: Option<i64>, wants: Option<i64>) -> CheckFault
+    ensures { result ≡ faults.value_fault number line has wants }
 {
     CheckFault {
         number,

@@ -1,16 +1,16 @@
 //! The faults of a head that is of its form.
 
-ghost use Rattle.std.specs.Prelude.{◌≡◌, ◌≤◌, IfOk, option_map};
+ghost use Rattle.std.specs.Prelude.{◌≡◌, ◌≤◌, IfOk, Some};
 ghost use Rattle.std.specs.Result.{result_err};
-ghost use Rattle.siting_definitions.specs.Answer as answers;
 ghost use Rattle.siting_definitions.specs.Answer.{upper_cost};
-ghost use Rattle.siting_definitions.specs.Sites.{opening_cost};
+ghost use Rattle.siting_definitions.specs.Sites as sites;
 ghost use Rattle.siting_definitions.specs.Marks as marks;
+ghost use Rattle.cert_checker.specs.Faults as faults;
 ghost use Rattle.cert_checker.specs.Faults.{best_fault, cost_line_of, head_fault_of, site_line_of, worse_fault};
 
-use crate::faults::{COST_DIFFERS, CheckFault, SITE_OUTSIDE, SITE_WORSE, differing, plain};
+use crate::faults::{COST_DIFFERS, CheckFault, SITE_OUTSIDE, SITE_WORSE, fault_at, value_fault};
+use answer_model::Head;
 use candidate_sites::opening;
-use certificate::Head;
 use objectives::cost_of;
 use site_model::{Instance, Site};
 
@@ -22,46 +22,26 @@ pub fn head_fault(head: &Head) -> Option<CheckFault>
     opening_or_fault(head).err()
 }
 
-/// The upper cost of the instance's opening, if there is one, or the first fault of the head. To find the opening takes long, so
-/// it is looked for only where the site has no fault of its own.
+/// The upper cost of the instance's opening, in cost units, if there is one; or the first fault of the head. To find the opening
+/// takes long, so it is looked for only where the site has no fault of its own.
 #[tactic(auto, unfolding(crate::specs::Faults::head_fault_of))]
-pub(crate) fn opening_or_fault(head: &Head) -> Result<Option<i64>, CheckFault>
-    ensures opening { IfOk result (λ opening. opening ≡ opening_cost head.now.instance) }
+pub fn opening_or_fault(head: &Head) -> Result<Option<i64>, CheckFault>
+    ensures opening { IfOk result (λ opening. opening ≡ sites.opening_cost head.now.instance) }
     ensures fault { result_err result ≡ head_fault_of head.now }
 {
     if let Some(fault) = fault_of_best(head) {
         return Err(fault);
     }
-    let opening = opening_upper(&head.instance);
+    let opening = opening_cost(&head.instance);
     match fault_beside(head, opening) {
         Some(fault) => Err(fault),
         None => Ok(opening),
     }
 }
 
-/// The site with its lower and its upper cost, in cost units, if there is one.
-pub(crate) fn best_in(head: &Head) -> Option<(Site, i64, i64)>
-    ensures { result ≡ option_map (λ (b : answers.Best). (b.site, b.lower, b.upper)) head.now.best }
-{
-    match (head.site, head.cost) {
-        (Some(site), Some((lower, upper))) => Some((site, lower, upper)),
-        _ => None,
-    }
-}
-
-/// The upper cost of the site, in cost units, if there is one.
-pub(crate) fn upper_in(head: &Head) -> Option<i64>
-    ensures { result ≡ upper_cost head.now.best }
-{
-    match best_in(head) {
-        Some((_, _, upper)) => Some(upper),
-        None => None,
-    }
-}
-
 /// The upper cost of the instance's opening, in cost units, if there is one.
-pub(crate) fn opening_upper(instance: &Instance) -> Option<i64>
-    ensures { result ≡ opening_cost instance.now }
+pub(crate) fn opening_cost(instance: &Instance) -> Option<i64>
+    ensures { result ≡ sites.opening_cost instance.now }
 {
     match opening(instance) {
         Some((_, upper)) => Some(upper),
@@ -73,7 +53,7 @@ pub(crate) fn opening_upper(instance: &Instance) -> Option<i64>
 fn fault_of_best(head: &Head) -> Option<CheckFault>
     ensures { result ≡ best_fault head.now.instance head.now.best }
 {
-    match best_in(head) {
+    match head.best() {
         None => None,
         Some((site, lower, upper)) => fault_of_priced(&head.instance, site, lower, upper),
     }
@@ -81,29 +61,28 @@ fn fault_of_best(head: &Head) -> Option<CheckFault>
 
 /// The first fault of a site with these costs.
 fn fault_of_priced(instance: &Instance, site: Site, lower: i64, upper: i64) -> Option<CheckFault>
-    ensures { result ≡ best_fault instance.now (Some (record { site = site; lower = lower; upper = upper })) }
+    ensures { result
+        ≡ best_fault instance.now
+        (Some (record { site = site; lower = lower; upper = upper })) }
 {
     if !instance.permits(site.pt()) {
-        return Some(plain(SITE_OUTSIDE, site_line(instance)));
+        return Some(fault_at(SITE_OUTSIDE, site_line(instance)));
     }
     let (own_lower, own_upper) = cost_of(instance, site);
-    if lower != own_lower {
-        return Some(differing(
-            COST_DIFFERS,
-            cost_line(instance),
-            Some(lower),
-            Some(own_lower),
-        ));
+    match cost_fault(instance, lower, own_lower) {
+        Some(fault) => Some(fault),
+        None => cost_fault(instance, upper, own_upper),
     }
-    if upper != own_upper {
-        return Some(differing(
-            COST_DIFFERS,
-            cost_line(instance),
-            Some(upper),
-            Some(own_upper),
-        ));
+}
+
+/// The fault of a cost that isn't the site's own.
+fn cost_fault(instance: &Instance, has: i64, wants: i64) -> Option<CheckFault>
+    ensures { result ≡ faults.cost_fault instance.now has wants }
+{
+    if has == wants {
+        return None;
     }
-    None
+    Some(value_fault(COST_DIFFERS, cost_line(instance), Some(has), Some(wants)))
 }
 
 /// The fault of an opening that costs less than the site, or that there is without a site.
@@ -111,11 +90,11 @@ fn fault_beside(head: &Head, opening: Option<i64>) -> Option<CheckFault>
     ensures { result ≡ worse_fault head.now.instance (upper_cost head.now.best) opening }
 {
     let opening = opening?;
-    let upper = upper_in(head);
+    let upper = head.upper_cost();
     if is_at_most(upper, opening) {
         return None;
     }
-    Some(differing(SITE_WORSE, cost_line(&head.instance), upper, Some(opening)))
+    Some(value_fault(SITE_WORSE, cost_line(&head.instance), upper, Some(opening)))
 }
 
 /// Whether a cost is there and at most another one.

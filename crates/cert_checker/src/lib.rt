@@ -11,18 +11,18 @@ mod mark;
 mod tests;
 mod walk;
 
-pub use certificate::Tally;
-pub use checking::{Accepted, check};
-pub use end::end_fault;
+pub use answer_model::Tally;
+pub use checking::{Accepted, accepted_of, check};
+pub use end::{end_fault, last_fault};
 pub use faults::{
     BOUND_DIFFERS, COST_DIFFERS, CheckError, CheckFault, Differ, FORM, INSTANCE, LEAST_DIFFERS,
     NOT_SHUT, SITE_OUTSIDE, SITE_WORSE, SPLIT_UNCALLED, TREE_LONG, TREE_SHORT, WRONG_COUNT,
     WRONG_MARK, WRONG_WORD,
 };
-pub use head::head_fault;
+pub use head::{head_fault, opening_or_fault};
 pub use laws::{
-    accepted_exactly_where_valid, ends_without_a_fault_fit, heads_without_a_fault_fit,
-    marks_without_a_fault_fit,
+    a_check_is_cut_in_two, accepted_exactly_where_valid, ends_without_a_fault_fit,
+    faults_have_their_numbers, heads_without_a_fault_fit, marks_without_a_fault_fit,
 };
 pub use mark::mark_fault;
 pub use walk::Walk;

@@ -10,11 +10,11 @@ ghost use Rattle.cert_checker.specs.Faults as faults;
 ghost use Rattle.cert_checker.specs.Faults.{fault_of_mark, mark_fault_of};
 
 use crate::faults::{
-    BOUND_DIFFERS, CheckFault, NOT_SHUT, SPLIT_UNCALLED, WRONG_MARK, differing, plain,
+    BOUND_DIFFERS, CheckFault, NOT_SHUT, SPLIT_UNCALLED, WRONG_MARK, fault_at, value_fault,
 };
-use crate::head::{is_at_most, upper_in};
+use crate::head::is_at_most;
+use answer_model::Head;
 use candidate_sites::centre_site;
-use certificate::Head;
 use dyadic_square::Square;
 use exclusion::excluded;
 use objectives::{fine, reaches};
@@ -28,84 +28,89 @@ use siting_definitions::Mark;
 pub fn mark_fault(
     head: &Head,
     opening: Option<i64>,
-    sq: Square,
+    square: Square,
     mark: Mark,
     line: u64,
 ) -> Option<CheckFault>
     requires { opening ≡ opening_cost head.now.instance }
-    ensures { result ≡ mark_fault_of head.now sq mark line }
+    ensures { result ≡ mark_fault_of head.now square mark line }
 {
     match mark {
-        Mark::Split(seen) => fault_of_split(head, opening, sq, seen, line),
-        Mark::Shut => fault_of_shut(head, sq, line),
-        Mark::Bounded(bound) => fault_of_bound(head, sq, bound, mark, line),
-        Mark::Floor(bound) => fault_of_bound(head, sq, bound, mark, line),
-        Mark::Left(bound) => fault_of_bound(head, sq, bound, mark, line),
+        Mark::Split(seen) => fault_of_split(head, opening, square, seen, line),
+        Mark::Shut => fault_of_shut(head, square, line),
+        Mark::Bounded(bound) => fault_of_bound(head, square, bound, mark, line),
+        Mark::Floor(bound) => fault_of_bound(head, square, bound, mark, line),
+        Mark::Left(bound) => fault_of_bound(head, square, bound, mark, line),
     }
 }
 
 /// The fault of the mark X.
-fn fault_of_shut(head: &Head, sq: Square, line: u64) -> Option<CheckFault>
-    ensures { result ≡ fault_of_mark head.now.instance head.now.gap (upper_cost head.now.best) sq Mark.Shut line }
+fn fault_of_shut(head: &Head, square: Square, line: u64) -> Option<CheckFault>
+    ensures { let h = head.now in
+        result ≡ fault_of_mark h.instance h.gap (upper_cost h.best) square Mark.Shut line }
 {
-    if excluded(&head.instance, sq) {
+    if excluded(&head.instance, square) {
         return None;
     }
-    Some(plain(NOT_SHUT, line))
+    Some(fault_at(NOT_SHUT, line))
 }
 
 /// The first fault of a split.
 fn fault_of_split(
     head: &Head,
     opening: Option<i64>,
-    sq: Square,
+    square: Square,
     seen: Option<i64>,
     line: u64,
 ) -> Option<CheckFault>
     requires { opening ≡ opening_cost head.now.instance }
-    ensures { result ≡ fault_of_mark head.now.instance head.now.gap (upper_cost head.now.best) sq (Mark.Split seen) line }
+    ensures { let h = head.now in
+        result ≡ fault_of_mark h.instance h.gap (upper_cost h.best) square (Mark.Split seen) line }
 {
-    if excluded(&head.instance, sq) {
-        return Some(plain(WRONG_MARK, line));
+    if excluded(&head.instance, square) {
+        return Some(fault_at(WRONG_MARK, line));
     }
-    if is_uncalled(head, opening, sq, seen) {
-        return Some(plain(SPLIT_UNCALLED, line));
+    if is_uncalled(head, opening, square, seen) {
+        return Some(fault_at(SPLIT_UNCALLED, line));
     }
     None
 }
 
 /// Whether a split wasn't called for after `seen` was seen.
-fn is_uncalled(head: &Head, opening: Option<i64>, sq: Square, seen: Option<i64>) -> bool
+fn is_uncalled(head: &Head, opening: Option<i64>, square: Square, seen: Option<i64>) -> bool
     requires { opening ≡ opening_cost head.now.instance }
-    ensures { result ≡ faults.is_uncalled head.now.instance head.now.gap (upper_cost head.now.best) sq seen }
+    ensures { let h = head.now in
+        result ≡ faults.is_uncalled h.instance h.gap (upper_cost h.best) square seen }
 {
-    if sq.level == 0 {
+    if square.level == 0 {
         return true;
     }
     match seen {
-        None => opening.is_some() || centre_upper(&head.instance, sq).is_some(),
-        Some(seen) => is_wrongly_seen(head, opening, sq, seen),
+        None => opening.is_some() || centre_cost(&head.instance, square).is_some(),
+        Some(seen) => is_wrongly_seen(head, opening, square, seen),
     }
 }
 
 /// Whether this number of the incumbent can't have been seen, or settled the square, or the opening or the centre costs less.
 /// The costs that take long come last.
-fn is_wrongly_seen(head: &Head, opening: Option<i64>, sq: Square, seen: i64) -> bool
+fn is_wrongly_seen(head: &Head, opening: Option<i64>, square: Square, seen: i64) -> bool
     requires { opening ≡ opening_cost head.now.instance }
-    ensures { result ≡ (not (marks.reaches (upper_cost head.now.best) seen)
-        || (faults.is_below (opening_cost head.now.instance) seen
-        || (int_le seen (fine_of head.now.instance sq +ℤ head.now.gap) || faults.is_below (sites.centre_cost head.now.instance sq) seen))) }
+    ensures { let i = head.now.instance in
+        result ≡ (not (marks.reaches (upper_cost head.now.best) seen)
+        || (faults.is_below (opening_cost i) seen
+        || (int_le seen (fine_of i square +ℤ head.now.gap)
+        || faults.is_below (sites.centre_cost i square) seen))) }
 {
-    if !is_at_most(upper_in(head), seen) {
+    if !is_at_most(head.upper_cost(), seen) {
         return true;
     }
     if is_below(opening, seen) {
         return true;
     }
-    if reaches(Some(seen), fine(&head.instance, sq), head.gap) {
+    if reaches(Some(seen), fine(&head.instance, square), head.gap) {
         return true;
     }
-    is_below(centre_upper(&head.instance, sq), seen)
+    is_below(centre_cost(&head.instance, square), seen)
 }
 
 /// Whether a cost is there and below another one.
@@ -119,42 +124,49 @@ fn is_below(cost: Option<i64>, other: i64) -> bool
 }
 
 /// The upper cost of a square's centre site, in cost units, if it has one.
-fn centre_upper(instance: &Instance, sq: Square) -> Option<i64>
-    ensures { result ≡ sites.centre_cost instance.now sq }
+fn centre_cost(instance: &Instance, square: Square) -> Option<i64>
+    ensures { result ≡ sites.centre_cost instance.now square }
 {
-    match centre_site(instance, sq) {
+    match centre_site(instance, square) {
         Some((_, upper)) => Some(upper),
         None => None,
     }
 }
 
 /// The first fault of a mark with a bound.
-fn fault_of_bound(head: &Head, sq: Square, bound: i64, mark: Mark, line: u64) -> Option<CheckFault>
-    ensures { result ≡ faults.bound_fault head.now.instance head.now.gap (upper_cost head.now.best) sq bound mark line }
+fn fault_of_bound(
+    head: &Head,
+    square: Square,
+    bound: i64,
+    mark: Mark,
+    line: u64,
+) -> Option<CheckFault>
+    ensures { let h = head.now in
+        result ≡ faults.bound_fault h.instance h.gap (upper_cost h.best) square bound mark line }
 {
-    if excluded(&head.instance, sq) {
-        return Some(plain(WRONG_MARK, line));
+    if excluded(&head.instance, square) {
+        return Some(fault_at(WRONG_MARK, line));
     }
-    let own = fine(&head.instance, sq);
+    let own = fine(&head.instance, square);
     if bound != own {
-        return Some(differing(BOUND_DIFFERS, line, Some(bound), Some(own)));
+        return Some(value_fault(BOUND_DIFFERS, line, Some(bound), Some(own)));
     }
-    if !has_letter(head, sq, bound, mark) {
-        return Some(plain(WRONG_MARK, line));
+    if !has_letter(head, square, bound, mark) {
+        return Some(fault_at(WRONG_MARK, line));
     }
     None
 }
 
 /// Whether a leaf with this bound, which is its own, has the right letter.
-fn has_letter(head: &Head, sq: Square, bound: i64, mark: Mark) -> bool
-    ensures { result ≡ faults.has_letter head.now.gap (upper_cost head.now.best) sq bound mark }
+fn has_letter(head: &Head, square: Square, bound: i64, mark: Mark) -> bool
+    ensures { result ≡ faults.has_letter head.now.gap (upper_cost head.now.best) square bound mark }
 {
-    let is_settled = reaches(upper_in(head), bound, head.gap);
+    let is_settled = reaches(head.upper_cost(), bound, head.gap);
     match mark {
         Mark::Split(_) => false,
         Mark::Shut => false,
         Mark::Bounded(_) => is_settled,
-        Mark::Floor(_) => !is_settled && sq.level == 0,
-        Mark::Left(_) => !is_settled && sq.level != 0,
+        Mark::Floor(_) => !is_settled && square.level == 0,
+        Mark::Left(_) => !is_settled && square.level != 0,
     }
 }

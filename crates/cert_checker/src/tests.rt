@@ -3,8 +3,8 @@
 ghost use Rattle.std.specs.Prelude.{◌<◌};
 
 use super::*;
-use crate::head::opening_upper;
-use certificate::{Head, Word};
+use crate::head::opening_cost;
+use answer_model::{Head, Word};
 use convex_region::Polygon;
 use dyadic_square::Square;
 use exact_geometry::Place;
@@ -293,11 +293,28 @@ fn the_parts_of_a_check(rt: HostRuntime) {
     let head = head(&rt, rt.alloc());
     let root = head.instance.root();
     assert_eq!(rt; head_fault(&head), None);
-    let opening = opening_upper(&head.instance);
+    assert_eq!(rt; opening_or_fault(&head), Ok(Some(185_364)));
+    let opening = opening_cost(&head.instance);
     assert_eq!(rt; opening, Some(185_364));
     let mark = Mark::Left(0);
     assert_eq!(rt; mark_fault(&head, opening, root, mark, 17), None);
     let mut tally = Tally::new();
     tally.add(mark);
     assert_eq!(rt; end_fault(&head, &tally, 18), None);
+    let mut walk = Walk::begin(root);
+    let short = CheckFault {
+        number: 5,
+        line: 18,
+        differ: None,
+    };
+    assert_eq!(rt; last_fault(&head, &walk, &tally, 18), Some(short));
+    walk.step(false);
+    assert_eq!(rt; last_fault(&head, &walk, &tally, 18), None);
+    let accepted = Accepted {
+        word: Word::Budget,
+        best: Some((Site::of(0, 0), 185_363, 185_364)),
+        bound: Some(0),
+        nodes: 1,
+    };
+    assert_eq!(rt; accepted_of(&head, &tally), accepted);
 }

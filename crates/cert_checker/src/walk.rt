@@ -1,7 +1,7 @@
 //! Reading the squares of a tree in preorder.
 
 ghost use Rattle.std.specs.Prelude.{◌≡◌, ◌<◌, [], ◌∷◌, length, slice_get};
-ghost use Rattle.cert_checker.specs.Walking.{AreFew, CanStep, stepped};
+ghost use Rattle.cert_checker.specs.Walking.{AreFew, CanStep, squares_after};
 
 use dyadic_square::Square;
 use std::marker::Model;
@@ -53,7 +53,7 @@ impl Walk {
     /// Goes on past the square that comes next. Where it is split, its quarters come after it.
     pub fn step(&mut self, split: bool)
         requires { CanStep self.old split }
-        ensures { self.new ≡ stepped self.old split }
+        ensures { self.new ≡ squares_after self.old split }
     {
         let square = self.pop();
         if split {

@@ -1,17 +1,18 @@
 -- The forms of lines.
-use Rattle.std.proofs.Common.{◌≡◌, ℕ, suc, zero, ◌+◌, ◌-◌, ◌^◌, ◌≤◌, ◌<◌, ◌≢◌, ◌⊎◌, ◌≤ℤ◌, ◌<ℤ◌, min, eqb, get_or, Bool, true, false, cond, List, [], ◌∷◌, ◌++◌, length, take, drop, refl, sym, ap, ◌∙◌, arith, Option, Some, None, option_map, option_and_then, ℤ, pos, negsuc, neg_ℤ, int_le, FitsSigned, unsigned_abs, bytes_eq, ok_or, Result, IfOk, inl, inr}
+use Rattle.std.proofs.Common.{◌≡◌, ℕ, suc, zero, ◌+◌, ◌-◌, ◌^◌, ◌≤◌, ◌<◌, ◌≢◌, ◌⊎◌, ◌≤ℤ◌, ◌<ℤ◌, min, eqb, get_or, Bool, true, false, cond, List, [], ◌∷◌, ◌++◌, length, take, drop, refl, sym, ap, ◌∙◌, arith, Option, Some, None, option_map, option_and_then, ℤ, pos, negsuc, neg_ℤ, int_le, FitsSigned, unsigned_abs, bytes_eq, ok_or, Result, IfOk, codes, inl, inr}
 use Rattle.std.specs.Prelude.{◌&&◌, nat_eq, nat_le}
 use Rattle.std.specs.List.{starts_with}
 use Rattle.std.specs.Int.{w64}
 use Rattle.std.specs.Fmt.{signed_decimal}
 use Rattle.std.proofs.lemmas.Int.{ints}
 use Rattle.std.proofs.lemmas.Bool.Decides.{eqb_tells}
-use Rattle.text_lines.specs.Numbers.{number_of, capped_size, minus}
+use Rattle.text_lines.specs.Numbers.{number_of, saturated_size, minus}
+use Rattle.siting_definitions.specs.Square.{Square}
 use Rattle.siting_definitions.proofs.Integers.{lt-int_le, int_le-true}
-use Rattle.certificate.specs.Forms.{only_if, ranged, canonical, canonical_within, after_word, at_space, two_numbers, number_form}
+use Rattle.certificate.specs.Forms.{only_if, ranged, canonical, canonical_within, after_word, at_space, two_numbers, number_form, root_form}
 use Rattle.certificate.specs.declared.reader.AnswerError.{AnswerError}
 use Rattle.certificate.specs.declared.reader.AnswerError.TheVariants.{Form}
-use Rattle.certificate.specs.FormParts.{space_first}
+use Rattle.certificate.specs.FormParts.{space_first, root_fields}
 
 -- ---- canonical numbers
 -- beyond both ends of 64 bits, z is out of any range of 64 bits, capped or not
@@ -33,10 +34,10 @@ pub least_64 : (z : ℤ) → FitsSigned w64 z → negsuc (2 ^ 63 - 1) ≤ℤ z
 least_64 (pos n) h = omega (arith, ints)
 least_64 (negsuc n) h = let fits : n < 2 ^ 63 = h.sfits in omega (arith, ints)
 
-capped_ranged : (low high z : ℤ) → FitsSigned w64 low → FitsSigned w64 high → ranged low high (capped_size z) ≡ ranged low high z
+capped_ranged : (low high z : ℤ) → FitsSigned w64 low → FitsSigned w64 high → ranged low high (saturated_size z) ≡ ranged low high z
 capped_ranged low high (pos n) lo hi = by_size (nat_le n (2 ^ 64 - 1)) refl
   where
-    by_size : (t : Bool) → nat_le n (2 ^ 64 - 1) ≡ t → ranged low high (capped_size (pos n)) ≡ ranged low high (pos n)
+    by_size : (t : Bool) → nat_le n (2 ^ 64 - 1) ≡ t → ranged low high (saturated_size (pos n)) ≡ ranged low high (pos n)
     by_size true e =
         let small : n ≤ 2 ^ 64 - 1 = grind arith in
         let same : min n (2 ^ 64 - 1) ≡ n = omega arith in
@@ -48,7 +49,7 @@ capped_ranged low high (pos n) lo hi = by_size (nat_le n (2 ^ 64 - 1)) refl
         ap (λ k. ranged low high (pos k)) same ∙ above low high (pos (2 ^ 64 - 1)) (omega (arith, ints)) ∙ sym (above low high (pos n) (omega (arith, ints)))
 capped_ranged low high (negsuc n) lo hi = by_size (nat_le (suc n) (2 ^ 64 - 1)) refl
   where
-    by_size : (t : Bool) → nat_le (suc n) (2 ^ 64 - 1) ≡ t → ranged low high (capped_size (negsuc n)) ≡ ranged low high (negsuc n)
+    by_size : (t : Bool) → nat_le (suc n) (2 ^ 64 - 1) ≡ t → ranged low high (saturated_size (negsuc n)) ≡ ranged low high (negsuc n)
     by_size true e =
         let small : suc n ≤ 2 ^ 64 - 1 = grind arith in
         let same : min (suc n) (2 ^ 64 - 1) ≡ suc n = omega arith in
@@ -59,7 +60,7 @@ capped_ranged low high (negsuc n) lo hi = by_size (nat_le (suc n) (2 ^ 64 - 1)) 
         let least : negsuc (2 ^ 63 - 1) ≤ℤ low = least_64 low lo in
         ap (λ k. ranged low high (minus k)) same ∙ below low high (minus (2 ^ 64 - 1)) (omega (arith, ints)) ∙ sym (below low high (negsuc n) (omega (arith, ints)))
 
-pub canonical_from : (low high : ℤ) (field : List ℕ) (o : Option ℤ) → FitsSigned w64 low → FitsSigned w64 high → o ≡ option_and_then (ranged low high) (option_map capped_size (number_of field))
+pub canonical_from : (low high : ℤ) (field : List ℕ) (o : Option ℤ) → FitsSigned w64 low → FitsSigned w64 high → o ≡ option_and_then (ranged low high) (option_map saturated_size (number_of field))
     → option_and_then (λ v. only_if (bytes_eq (signed_decimal v) field) v) o ≡ canonical_within low high field
 canonical_from low high field o lo hi is = rw is (by_number (number_of field))
   where
@@ -70,7 +71,7 @@ canonical_from low high field o lo hi is = rw is (by_number (number_of field))
     by_tests z false true within written = rw within refl
     by_tests z false false within written = refl
 
-    by_number : (o : Option ℤ) → option_and_then (λ v. only_if (bytes_eq (signed_decimal v) field) v) (option_and_then (ranged low high) (option_map capped_size o)) ≡ option_and_then (ranged low high) (option_and_then (λ z. only_if (bytes_eq (signed_decimal z) field) z) o)
+    by_number : (o : Option ℤ) → option_and_then (λ v. only_if (bytes_eq (signed_decimal v) field) v) (option_and_then (ranged low high) (option_map saturated_size o)) ≡ option_and_then (ranged low high) (option_and_then (λ z. only_if (bytes_eq (signed_decimal z) field) z) o)
     by_number None = refl
     by_number (Some z) = rw (capped_ranged low high z lo hi) (by_tests z (int_le low z && int_le z high) (bytes_eq (signed_decimal z) field) refl refl)
 
@@ -172,3 +173,38 @@ number_range low high word line at (Some z) result is form = rw is (by_word (aft
     by_word : (o : Option (List ℕ)) → option_and_then (canonical_within low high) o ≡ Some z → (low ≤ℤ z) × (z ≤ℤ high)
     by_word None e = let none : None ≡ Some z = e in cc
     by_word (Some field) e = canonical_range low high field z e
+
+-- ---- the line of a root
+bytes_eq-sym : (a b : List ℕ) → bytes_eq a b ≡ bytes_eq b a
+bytes_eq-sym [] [] = refl
+bytes_eq-sym [] (y ∷ ys) = refl
+bytes_eq-sym (x ∷ xs) [] = refl
+bytes_eq-sym (x ∷ xs) (y ∷ ys) = rw (same_test x y, bytes_eq-sym xs ys) refl
+
+-- a line that is a word, a space and more, by what stands after the word and the space
+word_and_more : {T : Type 0} (word more line : List ℕ) (v : T) → only_if (bytes_eq line (word ++ 32 ∷ more)) v ≡ option_and_then (λ rest. only_if (bytes_eq rest more) v) (after_word word line)
+word_and_more [] more [] v = refl
+word_and_more [] more (l ∷ line) v = rw (same_test l 32) (by_test (eqb 32 l))
+  where
+    by_test : (t : Bool) → only_if (t && bytes_eq line more) v ≡ option_and_then (λ rest. only_if (bytes_eq rest more) v) (only_if (t && true) line)
+    by_test true = refl
+    by_test false = refl
+word_and_more (w ∷ word) more [] v = refl
+word_and_more (w ∷ word) more (l ∷ line) v =
+    let one : suc (length word) + 1 ≡ suc (length word + 1) = omega arith in
+    rw (same_test l w, one) (by_test (eqb w l) (word_and_more word more line v))
+  where
+    by_test : (t : Bool) → only_if (bytes_eq line (word ++ 32 ∷ more)) v ≡ option_and_then (λ rest. only_if (bytes_eq rest more) v) (after_word word line)
+        → only_if (t && bytes_eq line (word ++ 32 ∷ more)) v ≡ option_and_then (λ rest. only_if (bytes_eq rest more) v) (only_if (t && starts_with nat_eq line (word ++ 32 ∷ [])) (drop (length word + 1) line))
+    by_test true same = same
+    by_test false same = refl
+
+pub root_fields-is : (s : Square) (line : List ℕ) → root_fields s line ≡ root_form s line
+root_fields-is s line =
+    let x = signed_decimal s.x in
+    let y = signed_decimal s.y in
+    let level = signed_decimal (pos s.level) in
+    sym (word_and_more (codes "root") (x ++ 32 ∷ (y ++ 32 ∷ level)) line s
+    ∙ (λ i. option_and_then (λ at_x. word_and_more x (y ++ 32 ∷ level) at_x s i) (after_word (codes "root") line))
+    ∙ (λ i. option_and_then (λ at_x. option_and_then (λ at_y. word_and_more y level at_y s i) (after_word x at_x)) (after_word (codes "root") line))
+    ∙ (λ i. option_and_then (λ at_x. option_and_then (λ at_y. option_and_then (λ at_level. only_if (bytes_eq-sym at_level level i) s) (after_word y at_y)) (after_word x at_x)) (after_word (codes "root") line)))

@@ -1,13 +1,15 @@
-pub mod ClaimsLemmas
-mod TextLemmas
-pub mod InputLemmas
-pub mod CanonicalForms
+mod NumberForms
+mod HeadForms
+pub mod MarkForms
+mod FrontLemmas
+mod LineBytes
+mod InstancePartLemmas
 pub mod HeadLemmas
+mod AnswerWords
+pub mod AnswerTextLemmas
 pub mod LengthLemmas
 mod Written
-pub mod TallyLemmas
-mod HeldLemmas
-mod LineLemmas
+mod HeadParts
 mod FormLemmas
 mod ShortLemmas
 mod PartLemmas

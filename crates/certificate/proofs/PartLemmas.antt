@@ -1,12 +1,23 @@
 -- The lines of the instance.
-use Rattle.std.proofs.Common.{◌≡◌, ℕ, suc, ◌+◌, Bool, true, false, cond, List, [], ◌∷◌, ◌++◌, length, refl, sym, ap, ◌∙◌, arith, append_assoc, append-nil, Option, Some, None, IfSome, Result, Ok, Err, bytes_eq, codes, nat_le}
+use Rattle.std.proofs.Common.{◌≡◌, ℕ, suc, ◌+◌, ◌≤◌, Bool, true, false, cond, List, [], ◌∷◌, ◌++◌, length, refl, sym, ap, subst, ◌∙◌, inl, arith, append_assoc, append-nil, Option, Some, None, Result, Ok, Err, bytes_eq, codes, nat_le}
+use Rattle.std.specs.Prelude.{⊤}
+use Rattle.std.specs.Result.{IsErrAnd}
 use Rattle.std.proofs.lemmas.List.{length-append}
+use Rattle.siting_definitions.specs.Instance.{Instance}
+use Rattle.instance_text.specs.Reading.{reading, and_then}
+use Rattle.line_stream.specs.declared.lines.LineError.{LineError}
+use Rattle.line_stream.specs.declared.lines.LineError.TheVariants.{TooLong as LineTooLong}
+use Rattle.line_stream.specs.Input.{bytes_of}
+use Rattle.line_stream.specs.Coming.{Coming, next_line}
+use Rattle.line_stream.specs.Stream.{Stream, coming_in, IsNeeded}
+use Rattle.line_stream.specs.LineReading.{after_front, InLine, IsLine, IsStopped, PieceRead}
+use Rattle.line_stream.proofs.LineLemmas.{Consumes-none, after_front-nil, in_line-then, in_line-ends, in_line-fails}
 use Rattle.certificate.specs.declared.reader.AnswerError.{AnswerError}
-use Rattle.certificate.specs.HeadReading.{Coming, next_line, missing, add_line, part_of, bytes_of}
-use Rattle.certificate.specs.ReaderView.{ReadsTo}
-use Rattle.certificate.specs.LineReading.{after_front, InLine}
-use Rattle.certificate.specs.PartReading.{part_limit, kept_part, part_with, Grows, lines_in, part_reading, InRest, IsRest, InPart, IsPartLine, IsPart}
-use Rattle.certificate.proofs.LineLemmas.{some_path, after_front-nil, after_front-append}
+use Rattle.certificate.specs.declared.reader.AnswerError.TheVariants.{Form, Instance as BadInstance, TooLong, ReadFault, NoMemory}
+use Rattle.certificate.specs.HeadReading.{answer_limit, answer_error, in_answer, answer_line, missing, add_line, part_of, if_canonical, or_bad_instance, instance_in, instance_part}
+use Rattle.certificate.specs.AnswerReading.{ReadWith, ReadInMemory}
+use Rattle.certificate.specs.PartReading.{part_limit, kept_part, part_with, Grows, lines_in, part_reading, after_part, LineInPart, NoLine, RestRead, PartLineRead, PartRead, Canonical}
+use Rattle.certificate.proofs.ReadLemmas.{same_error, IsThrough, through_then, through_error, through_value, through_no_memory, error_also, needed_also, read_also, read_then, read_stop, read_none, settled_here, memory_here, line_read, line_stopped, line_needed}
 use Rattle.certificate.proofs.ShortLemmas.{not_word}
 
 -- ---- what is kept
@@ -30,66 +41,136 @@ kept_more before bytes = by_test (nat_le (length before) part_limit) (nat_le (le
 grows-add : (part now : Option (List ℕ)) (bytes : List ℕ) → now ≡ part_with part bytes → Grows part now bytes
 grows-add part now bytes is before kept = is ∙ (ap (λ p. part_with p bytes) kept ∙ kept_more before bytes)
 
--- ---- the rest of a line
-pub in_rest-start : (o : Option Coming) (part : Option (List ℕ)) → IfSome o (λ r. InRest r o part part)
-in_rest-start None part = tt
-in_rest-start (Some r) part = record { front = []; rest = r; goes_on = refl; reads = sym (after_front-nil (next_line r)); grows = grows-none part }
+-- ---- a line that is read in pieces
+-- a front of a line was read, and is kept
+pub record InRest (before after : Stream) (part now : Option (List ℕ)) : Type 0 where
+  pub front : List ℕ
+  pub in_line : InLine answer_limit before after front
+  pub grows : Grows part now front
 
-pub in_rest-next : (a b c : Option Coming) (part now then : Option (List ℕ)) (kept : List ℕ) → IfSome a (λ r. InRest r b part now) → IfSome b (λ r. InLine r c kept) → then ≡ part_with now kept → IfSome a (λ r. InRest r c part then)
-in_rest-next None b c part now then kept h next is = tt
-in_rest-next (Some r) None c part now then kept h next is = let e : None ≡ Some h.rest = h.goes_on in cc
-in_rest-next (Some r) (Some s) c part now then kept h next is =
-    let same : s ≡ h.rest = some_path s h.rest h.goes_on in
-    record {
-      front = h.front ++ kept;
-      rest = next.rest;
-      goes_on = next.goes_on;
-      reads = h.reads ∙ (ap (λ t. after_front h.front (next_line t)) (sym same) ∙ (ap (after_front h.front) next.reads ∙ after_front-append h.front kept (next_line next.rest)));
-      grows = grows-then part now then h.front kept h.grows (grows-add now then kept is);
-    }
+pub in_rest-start : (a : Stream) (part : Option (List ℕ)) → InRest a a part part
+in_rest-start a part = record {
+  front = [];
+  in_line = record {
+    got = [];
+    consumes = Consumes-none a.left;
+    needed = inl refl;
+    reads = λ more rest. sym (after_front-nil (next_line (coming_in more answer_limit a.lines rest)));
+    later = omega arith;
+  };
+  grows = grows-none part;
+}
 
-pub in_rest-ends : (a b c : Option Coming) (part now then last : Option (List ℕ)) (kept : List ℕ) → IfSome a (λ r. InRest r b part now) → IfSome b (λ r. ReadsTo (next_line r) c (Ok kept)) → then ≡ part_with now kept → last ≡ part_with then (10 ∷ [])
-    → IfSome a (λ r. IsRest r c part last)
-in_rest-ends None b c part now then last kept h next is feed = tt
-in_rest-ends (Some r) None c part now then last kept h next is feed = let e : None ≡ Some h.rest = h.goes_on in cc
-in_rest-ends (Some r) (Some s) c part now then last kept h next is feed =
-    let same : s ≡ h.rest = some_path s h.rest h.goes_on in
-    record {
-      line = h.front ++ kept;
-      rest = next.0;
-      goes_on = next.2;
-      reads = h.reads ∙ (ap (λ t. after_front h.front (next_line t)) (sym same) ∙ ap (after_front h.front) next.1);
-      grows = grows-then part then last (h.front ++ kept) (10 ∷ []) (grows-then part now then h.front kept h.grows (grows-add now then kept is)) (grows-add then last (10 ∷ []) feed);
-    }
+pub in_rest-next : (a b c : Stream) (part now then : Option (List ℕ)) → InRest a b part now → PieceRead answer_limit b c (Ok false) → then ≡ part_with now c.lines.kept → InRest a c part then
+in_rest-next a b c part now then h piece is = record {
+  front = h.front ++ c.lines.kept;
+  in_line = in_line-then answer_limit a b c h.front c.lines.kept h.in_line piece;
+  grows = grows-then part now then h.front c.lines.kept h.grows (grows-add now then c.lines.kept is);
+}
+
+pub in_rest-ends : (a b c : Stream) (part now then last : Option (List ℕ)) → InRest a b part now → PieceRead answer_limit b c (Ok true) → then ≡ part_with now c.lines.kept → last ≡ part_with then (10 ∷ [])
+    → (line : List ℕ) × LineInPart a c part last line
+in_rest-ends a b c part now then last h piece is feed = (
+  h.front ++ c.lines.kept,
+  record {
+    reads = line_read a c (h.front ++ c.lines.kept) (in_line-ends answer_limit a b c h.front c.lines.kept h.in_line piece);
+    grows = grows-then part then last (h.front ++ c.lines.kept) (10 ∷ []) (grows-then part now then h.front c.lines.kept h.grows (grows-add now then c.lines.kept is)) (grows-add then last (10 ∷ []) feed);
+  },
+)
+
+in_answer-front : (front : List ℕ) (r : Result (List ℕ × Coming) LineError) → in_answer (after_front front r) ≡ after_part front (in_answer r)
+in_answer-front front (Ok read) = refl
+in_answer-front front (Err e) = refl
+
+-- within a line, what is wanted is the rest of the line
+line_through : (a b : Stream) (front : List ℕ) → InLine answer_limit a b front → IsThrough answer_line answer_line (after_part front) a b
+line_through a b front h = record {
+  got = h.got;
+  consumes = h.consumes;
+  needed = line_needed next_line a.lines h.got h.needed;
+  same = λ more rest. ap in_answer (h.reads more rest) ∙ in_answer-front front (next_line (coming_in more answer_limit b.lines rest));
+  errors = λ e. refl;
+  rises = h.later;
+}
+
+-- after a line nothing is wanted
+line_done : (a b : Stream) (line : List ℕ) → IsLine answer_limit a b line → IsThrough answer_line (λ r. Ok (line, r)) (λ r. r) a b
+line_done a b line h = record {
+  got = h.got;
+  consumes = h.consumes;
+  needed = line_needed next_line a.lines h.got h.needed;
+  same = λ more rest. ap in_answer (h.reads more rest);
+  errors = λ e. refl;
+  rises = h.later;
+}
+
+pub line_no_memory : (a b : Stream) (front : List ℕ) → InLine answer_limit a b front → NoLine a b NoMemory
+line_no_memory a b front h = through_no_memory true answer_line answer_line (after_part front) a b b (line_through a b front h)
+
+pub piece_no_memory : (a b : Stream) (whole : Bool) → PieceRead answer_limit a b (Ok whole) → NoLine a b NoMemory
+piece_no_memory a b true h = through_no_memory true answer_line (λ r. Ok (b.lines.kept, r)) (λ r. r) a b b (line_done a b b.lines.kept h)
+piece_no_memory a b false h = line_no_memory a b b.lines.kept h
+
+pub rest_no_memory : (a b c : Stream) (part now : Option (List ℕ)) (whole : Bool) → InRest a b part now → PieceRead answer_limit b c (Ok whole) → NoLine a c NoMemory
+rest_no_memory a b c part now true h piece =
+    through_no_memory true answer_line (λ r. Ok (h.front ++ c.lines.kept, r)) (λ r. r) a c c (line_done a c (h.front ++ c.lines.kept) (in_line-ends answer_limit a b c h.front c.lines.kept h.in_line piece))
+rest_no_memory a b c part now false h piece = line_no_memory a c (h.front ++ c.lines.kept) (in_line-then answer_limit a b c h.front c.lines.kept h.in_line piece)
+
+pub rest_stopped : (a b c : Stream) (part now : Option (List ℕ)) (e : LineError) → InRest a b part now → PieceRead answer_limit b c (Err e) → NoLine a c (answer_error e)
+rest_stopped a b c part now e h piece = line_stopped a c e (in_line-fails answer_limit a b c h.front e h.in_line piece)
+
+-- the error of a call for a line
+pub rest_error : (a c : Stream) (part now : Option (List ℕ)) (e : AnswerError) (result : Result ⊤ AnswerError) → NoLine a c e → IsErrAnd result (λ x. x ≡ e) → RestRead a c part now result
+rest_error a c part now e (Ok done) stopped is = absurd is
+rest_error a c part now e (Err x) stopped is = subst (NoLine a c) (sym is) stopped
+
+pub part_error : (a c : Stream) (part now : Option (List ℕ)) (e : AnswerError) (result : Result Bool AnswerError) → NoLine a c e → IsErrAnd result (λ x. x ≡ e) → PartLineRead a c part now result
+part_error a c part now e (Ok is_end) stopped is = absurd is
+part_error a c part now e (Err x) stopped is = subst (NoLine a c) (sym is) stopped
+
+pub memory_error : {T : Type 0} (a c : Stream) (e : AnswerError) → ◌≡◌ {A = Result T AnswerError} (Err e) (Err NoMemory) → NoLine a c NoMemory → NoLine a c e
+memory_error a c e is stopped = subst (NoLine a c) (sym (same_error e NoMemory is)) stopped
 
 -- ---- a line
-pub long_line : (a b c : Option Coming) (part now last : Option (List ℕ)) (kept : List ℕ) → IfSome a (λ r. InLine r b kept) → length kept ≡ 4096 → now ≡ part_with part kept → IfSome b (λ r. IsRest r c now last) → IfSome a (λ r. IsPartLine r c part last false)
-long_line None b c part now last kept h long is rest = tt
-long_line (Some r) None c part now last kept h long is rest = let e : None ≡ Some h.rest = h.goes_on in cc
-long_line (Some r) (Some s) c part now last kept h long is rest =
-    let same : s ≡ h.rest = some_path s h.rest h.goes_on in
-    let all : length (kept ++ rest.line) ≡ length kept + length rest.line = length-append kept rest.line in
-    record {
-      line = kept ++ rest.line;
-      rest = rest.rest;
-      goes_on = rest.goes_on;
-      reads = h.reads ∙ (ap (λ t. after_front kept (next_line t)) (sym same) ∙ ap (after_front kept) rest.reads);
-      grows = λ before part_is. grows-then part now last kept (rest.line ++ 10 ∷ []) (grows-add part now kept is) rest.grows before part_is ∙ ap (λ l. kept_part (before ++ l)) (sym (append_assoc kept rest.line (10 ∷ [])));
-      ends = sym (not_word (kept ++ rest.line) (codes "end") (omega arith));
-    }
+pub long_line : (a b c : Stream) (part now last : Option (List ℕ)) → PieceRead answer_limit a b (Ok false) → length b.lines.kept ≡ 4096 → now ≡ part_with part b.lines.kept → (line : List ℕ) × LineInPart b c now last line
+    → (line : List ℕ) × LineInPart a c part last line × (false ≡ bytes_eq line (codes "end"))
+long_line a b c part now last piece long is rest =
+    let kept = b.lines.kept in
+    let line = kept ++ rest.0 in
+    let all : length line ≡ length kept + length rest.0 = length-append kept rest.0 in (
+      line,
+      record {
+        reads = through_value true answer_line answer_line (after_part kept) a b c (line_through a b kept piece) rest.0 line (λ r. refl) rest.1.reads;
+        grows = λ before part_is. grows-then part now last kept (rest.0 ++ 10 ∷ []) (grows-add part now kept is) rest.1.grows before part_is ∙ ap (λ l. kept_part (before ++ l)) (sym (append_assoc kept rest.0 (10 ∷ [])));
+      },
+      sym (not_word line (codes "end") (omega arith)),
+    )
+
+pub long_stopped : (a b c : Stream) (e : AnswerError) → PieceRead answer_limit a b (Ok false) → NoLine b c e → NoLine a c e
+long_stopped a b c e piece stopped = through_error true answer_line answer_line (after_part b.lines.kept) a b c (line_through a b b.lines.kept piece) e stopped
+
+pub whole_line : (a b : Stream) (part now last : Option (List ℕ)) (is_end : Bool) → PieceRead answer_limit a b (Ok true) → now ≡ part_with part b.lines.kept → last ≡ part_with now (10 ∷ []) → is_end ≡ bytes_eq b.lines.kept (codes "end")
+    → (line : List ℕ) × LineInPart a b part last line × (is_end ≡ bytes_eq line (codes "end"))
+whole_line a b part now last is_end piece is feed ends = (
+  b.lines.kept,
+  record {
+    reads = line_read a b b.lines.kept piece;
+    grows = grows-then part now last b.lines.kept (10 ∷ []) (grows-add part now b.lines.kept is) (grows-add now last (10 ∷ []) feed);
+  },
+  ends,
+)
 
 -- ---- the lines to the first that is "end"
-
 part_cons : (l : List ℕ) (ls : List (List ℕ)) (partial : List ℕ) (goes_on : Bool) (n : ℕ) → bytes_eq l (codes "end") ≡ false
     → (let r : Coming = record { input = record { lines = l ∷ ls; partial = partial; goes_on = goes_on }; line = n } in
     let rest : Coming = record { input = record { lines = ls; partial = partial; goes_on = goes_on }; line = n + 1 } in
-    part_reading r ≡ after_front (l ++ 10 ∷ []) (part_reading rest))
+    part_reading r ≡ after_part (l ++ 10 ∷ []) (part_reading rest))
 part_cons l ls partial goes_on n e = rw e (by_parts (part_of ls))
   where
     by_parts : (o : Option (List (List ℕ) × List (List ℕ)))
         → (let r : Coming = record { input = record { lines = l ∷ ls; partial = partial; goes_on = goes_on }; line = n } in
         let rest : Coming = record { input = record { lines = ls; partial = partial; goes_on = goes_on }; line = n + 1 } in
-        lines_in (add_line l o) r ≡ after_front (l ++ 10 ∷ []) (lines_in o rest))
+        lines_in (add_line l o) r ≡ after_part (l ++ 10 ∷ []) (lines_in o rest))
     by_parts None =
         let same : n + suc (length ls) + 1 ≡ n + 1 + length ls + 1 = omega arith in
         ap (λ k. Err (missing (record { lines = l ∷ ls; partial = partial; goes_on = goes_on }) k)) same
@@ -102,20 +183,22 @@ same_read a b e = cc
 
 part_more : (lines : List (List ℕ)) (partial : List ℕ) (goes_on : Bool) (n : ℕ) (line : List ℕ) (rest : Coming)
     → (let r : Coming = record { input = record { lines = lines; partial = partial; goes_on = goes_on }; line = n } in
-    next_line r ≡ Ok (line, rest) → bytes_eq line (codes "end") ≡ false → part_reading r ≡ after_front (line ++ 10 ∷ []) (part_reading rest))
-part_more [] partial goes_on n line rest e ends = cc
+    answer_line r ≡ Ok (line, rest) → bytes_eq line (codes "end") ≡ false → part_reading r ≡ after_part (line ++ 10 ∷ []) (part_reading rest))
+part_more [] partial true n line rest e ends = cc
+part_more [] partial false n line rest e ends = cc
 part_more (l ∷ ls) partial goes_on n line rest e ends =
     let pair : (l, record { input = record { lines = ls; partial = partial; goes_on = goes_on }; line = n + 1 }) ≡ (line, rest) = same_read _ _ e in
     let first : l ≡ line = ap (λ (p : List ℕ × Coming). p.0) pair in
     let more : record { input = record { lines = ls; partial = partial; goes_on = goes_on }; line = n + 1 } ≡ rest = ap (λ (p : List ℕ × Coming). p.1) pair in
     part_cons l ls partial goes_on n (ap (λ t. bytes_eq t (codes "end")) first ∙ ends)
-    ∙ (ap (λ t. after_front (t ++ 10 ∷ []) (part_reading (record { input = record { lines = ls; partial = partial; goes_on = goes_on }; line = n + 1 }))) first
-    ∙ ap (λ t. after_front (line ++ 10 ∷ []) (part_reading t)) more)
+    ∙ (ap (λ t. after_part (t ++ 10 ∷ []) (part_reading (record { input = record { lines = ls; partial = partial; goes_on = goes_on }; line = n + 1 }))) first
+    ∙ ap (λ t. after_part (line ++ 10 ∷ []) (part_reading t)) more)
 
 part_last : (lines : List (List ℕ)) (partial : List ℕ) (goes_on : Bool) (n : ℕ) (line : List ℕ) (rest : Coming)
     → (let r : Coming = record { input = record { lines = lines; partial = partial; goes_on = goes_on }; line = n } in
-    next_line r ≡ Ok (line, rest) → bytes_eq line (codes "end") ≡ true → part_reading r ≡ Ok (line ++ 10 ∷ [], rest))
-part_last [] partial goes_on n line rest e ends = cc
+    answer_line r ≡ Ok (line, rest) → bytes_eq line (codes "end") ≡ true → part_reading r ≡ Ok (line ++ 10 ∷ [], rest))
+part_last [] partial true n line rest e ends = cc
+part_last [] partial false n line rest e ends = cc
 part_last (l ∷ ls) partial goes_on n line rest e ends =
     let one : n + length (l ∷ []) ≡ n + 1 = omega arith in
     let pair : (l, record { input = record { lines = ls; partial = partial; goes_on = goes_on }; line = n + 1 }) ≡ (line, rest) = same_read _ _ e in
@@ -126,31 +209,115 @@ part_last (l ∷ ls) partial goes_on n line rest e ends =
     (ap (λ k. Ok ((l ++ 10 ∷ []) ++ [], record { input = record { lines = ls; partial = partial; goes_on = goes_on }; line = k })) one
     ∙ ap (λ t. Ok (t, record { input = record { lines = ls; partial = partial; goes_on = goes_on }; line = n + 1 })) (append-nil (l ++ 10 ∷ []) ∙ ap (λ t. t ++ 10 ∷ []) first) ∙ ap (λ t. Ok (line ++ 10 ∷ [], t)) more)
 
-pub in_part-next : (a b c : Option Coming) (part now : Option (List ℕ)) → IfSome a (λ r. InPart r b part) → IfSome b (λ r. IsPartLine r c part now false) → IfSome a (λ r. InPart r c now)
-in_part-next None b c part now h next = tt
-in_part-next (Some r) None c part now h next = let e : None ≡ Some h.rest = h.goes_on in cc
-in_part-next (Some r) (Some s) c part now h next =
-    let same : s ≡ h.rest = some_path s h.rest h.goes_on in
+-- where no line is, there are no lines to "end"
+no_part : (lines : List (List ℕ)) (partial : List ℕ) (goes_on : Bool) (n : ℕ) (e : AnswerError)
+    → (let r : Coming = record { input = record { lines = lines; partial = partial; goes_on = goes_on }; line = n } in answer_line r ≡ Err e → part_reading r ≡ Err e)
+no_part [] partial true n e none = none
+no_part [] partial false n e none =
+    let one : n + 0 + 1 ≡ n + 1 = omega arith in
+    ap (λ k. Err (Form k)) one ∙ none
+no_part (line ∷ lines) partial goes_on n e none = absurd (cc)
+
+part_none : (r : Coming) (e : AnswerError) → answer_line r ≡ Err e → part_reading r ≡ Err e
+part_none r e none = no_part r.input.lines r.input.partial r.input.goes_on r.line e none
+
+-- within the lines of the instance, of which these bytes were read and kept
+pub record InPart (before after : Stream) (part : Option (List ℕ)) : Type 0 where
+  pub bytes : List ℕ
+  pub through : IsThrough part_reading part_reading (after_part bytes) before after
+  pub keeps : part ≡ kept_part bytes
+
+after_part-nil : (r : Result (List ℕ × Coming) AnswerError) → after_part [] r ≡ r
+after_part-nil (Ok read) = refl
+after_part-nil (Err e) = refl
+
+pub in_part-start : (a : Stream) (part : Option (List ℕ)) → part ≡ Some [] → InPart a a part
+in_part-start a part is = record {
+  bytes = [];
+  through = record { got = []; consumes = Consumes-none a.left; needed = inl refl; same = λ more rest. sym (after_part-nil (part_reading (coming_in more answer_limit a.lines rest))); errors = λ e. refl; rises = omega arith };
+  keeps = is;
+}
+
+after_part-append : (a b : List ℕ) (r : Result (List ℕ × Coming) AnswerError) → after_part a (after_part b r) ≡ after_part (a ++ b) r
+after_part-append a b (Ok read) = ap (λ l. Ok (l, read.1)) (sym (append_assoc a b read.0))
+after_part-append a b (Err e) = refl
+
+-- after a line that isn't "end", the lines after it are wanted
+line_more : (b c : Stream) (line : List ℕ) → ReadInMemory answer_line b c (Ok line) → bytes_eq line (codes "end") ≡ false → IsThrough part_reading part_reading (after_part (line ++ 10 ∷ [])) b c
+line_more b c line k other = record {
+  got = k.got;
+  consumes = k.consumes;
+  needed = needed_also answer_line part_reading part_none b.lines k.got k.needed;
+  same = λ more rest.
+      let r = coming_in more answer_limit b.lines (k.got ++ rest) in
+      part_more r.input.lines r.input.partial r.input.goes_on r.line line (coming_in more answer_limit c.lines rest) (k.reads more rest) other;
+  errors = λ e. refl;
+  rises = k.blames.later;
+}
+
+pub in_part-next : (a b c : Stream) (part now : Option (List ℕ)) → InPart a b part → (line : List ℕ) × LineInPart b c part now line × (false ≡ bytes_eq line (codes "end")) → InPart a c now
+in_part-next a b c part now h next =
+    let line = next.0 ++ 10 ∷ [] in
+    let through = through_then part_reading part_reading part_reading (after_part h.bytes) (after_part line) a b c h.through (line_more b c next.0 next.1.reads (sym next.2)) in
     record {
-      bytes = h.bytes ++ (next.line ++ 10 ∷ []);
-      rest = next.rest;
-      goes_on = next.goes_on;
-      reads = h.reads ∙ (ap (λ t. after_front h.bytes (part_reading t)) (sym same)
-          ∙ (ap (after_front h.bytes) (part_more s.input.lines s.input.partial s.input.goes_on s.line next.line next.rest next.reads (sym next.ends))
-          ∙ after_front-append h.bytes (next.line ++ 10 ∷ []) (part_reading next.rest)));
-      keeps = next.grows h.bytes h.keeps;
+      bytes = h.bytes ++ line;
+      through = record {
+        got = through.got;
+        consumes = through.consumes;
+        needed = through.needed;
+        same = λ more rest. through.same more rest ∙ after_part-append h.bytes line (part_reading (coming_in more answer_limit c.lines rest));
+        errors = λ e. refl;
+        rises = through.rises;
+      };
+      keeps = next.1.grows h.bytes h.keeps;
     }
 
-pub in_part-ends : (a b c : Option Coming) (part now : Option (List ℕ)) → IfSome a (λ r. InPart r b part) → IfSome b (λ r. IsPartLine r c part now true) → IfSome a (λ r. IsPart r c now)
-in_part-ends None b c part now h next = tt
-in_part-ends (Some r) None c part now h next = let e : None ≡ Some h.rest = h.goes_on in cc
-in_part-ends (Some r) (Some s) c part now h next =
-    let same : s ≡ h.rest = some_path s h.rest h.goes_on in
-    record {
-      bytes = h.bytes ++ (next.line ++ 10 ∷ []);
-      rest = next.rest;
-      goes_on = next.goes_on;
-      reads = h.reads ∙ (ap (λ t. after_front h.bytes (part_reading t)) (sym same)
-          ∙ ap (after_front h.bytes) (part_last s.input.lines s.input.partial s.input.goes_on s.line next.line next.rest next.reads (sym next.ends)));
-      keeps = next.grows h.bytes h.keeps;
-    }
+pub in_part-ends : (a b c : Stream) (part now : Option (List ℕ)) → InPart a b part → (line : List ℕ) × LineInPart b c part now line × (true ≡ bytes_eq line (codes "end")) → PartRead a c (Ok now)
+in_part-ends a b c part now h next =
+    let line = next.0 ++ 10 ∷ [] in
+    let k = next.1.reads in
+    let last : ReadInMemory part_reading b c (Ok line) = record {
+      got = k.got;
+      consumes = k.consumes;
+      needed = needed_also answer_line part_reading part_none b.lines k.got k.needed;
+      reads = λ more rest.
+          let r = coming_in more answer_limit b.lines (k.got ++ rest) in
+          part_last r.input.lines r.input.partial r.input.goes_on r.line next.0 (coming_in more answer_limit c.lines rest) (k.reads more rest) (sym next.2);
+      blames = record { later = k.blames.later; failed = λ is. absurd (cc) };
+    } in
+    (h.bytes ++ line, through_value true part_reading part_reading (after_part h.bytes) a b c h.through line (h.bytes ++ line) (λ r. refl) last, next.1.grows h.bytes h.keeps)
+
+pub in_part-stopped : (a b c : Stream) (part : Option (List ℕ)) (e : AnswerError) (result : Result (Option (List ℕ)) AnswerError) → InPart a b part → NoLine b c e → IsErrAnd result (λ x. x ≡ e) → PartRead a c result
+in_part-stopped a b c part e (Ok now) h stopped is = absurd is
+in_part-stopped a b c part e (Err x) h stopped is =
+    rw is (through_error true part_reading part_reading (after_part h.bytes) a b c h.through e (error_also true answer_line part_reading part_none b c e stopped))
+
+-- ---- the instance
+-- the instance of the bytes of its lines
+abbrev canonical_part : Bool → List ℕ → Coming → Result (Instance × Coming) AnswerError
+canonical_part second bytes r = or_bad_instance (if_canonical second bytes (reading bytes)) r
+
+instance_is : (second : Bool) (r : Coming) → instance_part second r ≡ and_then (part_reading r) (λ p. canonical_part second p.0 p.1)
+instance_is second r = by_parts (part_of r.input.lines)
+  where
+    by_parts : (o : Option (List (List ℕ) × List (List ℕ))) → instance_in second o r ≡ and_then (lines_in o r) (λ p. canonical_part second p.0 p.1)
+    by_parts None = refl
+    by_parts (Some parts) = refl
+
+canonical_here : (second : Bool) (bytes : List ℕ) (b : Stream) (result : Result Instance AnswerError) → Canonical second bytes result → ReadInMemory (canonical_part second bytes) b b result
+canonical_here second bytes b (Ok i) is = read_none (canonical_part second bytes) b i (λ more rest. ap (λ o. or_bad_instance o (coming_in more answer_limit b.lines rest)) is)
+canonical_here second bytes b (Err (Form line)) is = absurd is
+canonical_here second bytes b (Err BadInstance) is =
+    settled_here (canonical_part second bytes) b (λ more rest. ap (λ o. or_bad_instance o (coming_in more answer_limit b.lines rest)) is)
+canonical_here second bytes b (Err TooLong) is = absurd is
+canonical_here second bytes b (Err ReadFault) is = absurd is
+canonical_here second bytes b (Err NoMemory) is = memory_here (canonical_part second bytes) b
+
+pub instance_read : (second : Bool) (a b : Stream) (part : Option (List ℕ)) (result : Result Instance AnswerError) → PartRead a b (Ok part) → ((bytes : List ℕ) → part ≡ kept_part bytes → Canonical second bytes result) → ReadInMemory (instance_part second) a b result
+instance_read second a b part result read canonical =
+    read_also true _ (instance_part second) (λ r. sym (instance_is second r)) a b result
+    (read_then part_reading (canonical_part second) a b b read.0 result read.1 (canonical_here second read.0 b result (canonical read.0 read.2)))
+
+pub instance_stopped : (second : Bool) (a b : Stream) (e : AnswerError) (result : Result Instance AnswerError) → PartRead a b (Err e) → IsErrAnd result (λ x. x ≡ e) → ReadInMemory (instance_part second) a b result
+instance_stopped second a b e result read is =
+    read_also true _ (instance_part second) (λ r. sym (instance_is second r)) a b result (read_stop part_reading (canonical_part second) a b e result is read)

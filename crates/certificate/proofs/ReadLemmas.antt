@@ -1,30 +1,389 @@
--- Reading one thing after another.
-use Rattle.std.proofs.Common.{◌≡◌, refl, sym, ap, ◌∙◌, subst, Option, Some, None, IfSome, Result, Ok, Bool}
+-- Calls that read an answer one after another.
+use Rattle.std.proofs.Common.{◌≡◌, ℕ, ◌≤◌, Bool, true, false, List, [], ◌++◌, length, refl, sym, ap, subst, ◌∙◌, ◌⊎◌, inl, inr, arith, append_assoc, append-nil, Option, Some, None, IfSome, option_map, ok_or, Result, Ok, Err}
+use Rattle.std.specs.Prelude.{⊤}
+use Rattle.std.specs.Result.{IsErrAnd}
+use Rattle.std.specs.Io.KnownBytes.{Consumes}
 use Rattle.instance_text.specs.Reading.{and_then}
-use Rattle.siting_definitions.specs.Instance.{Instance}
-use Rattle.siting_definitions.specs.Answer.{Head}
-use Rattle.certificate.specs.Forms.{version_form}
+use Rattle.port_io.specs.Faults.{Rose}
+use Rattle.port_io.proofs.SourceLemmas.{Consumes-then}
+use Rattle.line_stream.specs.declared.lines.LineError.{LineError}
+use Rattle.line_stream.specs.declared.lines.LineError.TheVariants.{Missing, Surplus, TooLong as LineTooLong, Failed as SourceFailed}
+use Rattle.line_stream.specs.Coming.{Coming, next_line, input_end}
+use Rattle.line_stream.specs.Stream.{LinesState, Stream, coming_in, Settles, IsNeeded, HasEnded}
+use Rattle.line_stream.specs.LineReading.{after_front, InLine, IsLine, IsStopped, IsKept, LineRead, IsEnd, EndRead as LinesEndRead}
+use Rattle.line_stream.proofs.LineLemmas.{Consumes-none, ended-then, rose-then, needed-kept, needed-last}
 use Rattle.certificate.specs.declared.reader.AnswerError.{AnswerError}
-use Rattle.certificate.specs.HeadReading.{Coming, formed, instance_part, lines_after, head_reading}
-use Rattle.certificate.specs.ReaderView.{ReadsTo}
-use Rattle.certificate.proofs.LineLemmas.{some_path}
+use Rattle.certificate.specs.declared.reader.AnswerError.TheVariants.{Form, Instance as BadInstance, TooLong, ReadFault, NoMemory}
+use Rattle.certificate.specs.HeadReading.{answer_limit, answer_error, in_answer, answer_line, or_form, formed, end_of}
+use Rattle.certificate.specs.Blames.{Blames}
+use Rattle.certificate.specs.AnswerReading.{StopsAs, ReadWith, EndRead}
+use Rattle.certificate.specs.ReaderView.{FailsAs, ReadsTo, EndsAs, TakesNone}
 
-pub then_reads : {T U : Type 0} (f : Coming → Result (T × Coming) AnswerError) (g : T → Coming → Result (U × Coming) AnswerError) (a b c : Option Coming) (v : T) (result : Result U AnswerError)
-    → IfSome a (λ r. ReadsTo (f r) b (Ok v)) → IfSome b (λ r. ReadsTo (g v r) c result) → IfSome a (λ r. ReadsTo (and_then (f r) (λ n. g n.0 n.1)) c result)
-then_reads f g None b c v result first next = tt
-then_reads f g (Some r) None c v result first next = let e : None ≡ Some first.0 = first.2 in cc
-then_reads f g (Some r) (Some s) c v result first next =
-    let same : s ≡ first.0 = some_path s first.0 first.2 in
-    subst (λ x. ReadsTo x c result) (ap (g v) same ∙ sym (ap (λ x. and_then x (λ n. g n.0 n.1)) first.1)) next
+-- ---- what was wanted before some bytes were read is told by what is wanted after them
+-- What `wanted` is of the input that came before is what `change` makes of what `later` is of the one that comes after.
+pub record IsThrough {T U : Type 0} (wanted : Coming → Result U AnswerError) (later : Coming → Result T AnswerError) (change : Result T AnswerError → Result U AnswerError) (before after : Stream) : Type 0 where
+  pub got : List ℕ
+  pub consumes : Consumes before.left after.left got
+  pub needed : IsNeeded answer_limit wanted TooLong before.lines got
+  pub same : (more : Bool) (rest : List ℕ) → wanted (coming_in more answer_limit before.lines (got ++ rest)) ≡ change (later (coming_in more answer_limit after.lines rest))
+  pub errors : (e : AnswerError) → change (Err e) ≡ Err e
+  pub rises : before.faults ≤ after.faults
 
-pub at_last : {U : Type 0} (o : Option Coming) (v : U) → IfSome o (λ r. ReadsTo (Ok (v, r)) o (Ok v))
-at_last None v = tt
-at_last (Some r) v = (r, refl, refl)
+error_or : {T : Type 0} → AnswerError → Result T AnswerError → AnswerError
+error_or e (Ok value) = e
+error_or e (Err error) = error
 
-pub head_reads : (a b c d : Option Coming) (second : Bool) (i : Instance) (h : Head)
-    → IfSome a (λ r. ReadsTo (formed version_form r) b (Ok second)) → IfSome b (λ r. ReadsTo (instance_part second r) c (Ok i)) → IfSome c (λ r. ReadsTo (lines_after i r) d (Ok h))
-    → IfSome a (λ r. ReadsTo (head_reading r) d (Ok h))
-unfolding head_reading
-head_reads a b c d second i h version instance lines =
-    then_reads (formed version_form) (λ second r. and_then (instance_part second r) (λ instance. lines_after instance.0 instance.1)) a b d second (Ok h) version
-    (then_reads (instance_part second) lines_after b c d i (Ok h) instance lines)
+-- an error is one of any result
+pub same_error : {T : Type 0} (e f : AnswerError) → ◌≡◌ {A = Result T AnswerError} (Err e) (Err f) → e ≡ f
+unfolding error_or
+same_error e f is = ap (error_or e) is
+
+-- an error blames the source in whatever it is a result of
+pub blames_as : {T U : Type 0} (before after : ℕ) (error : AnswerError) → Blames {T = T} before after (Err error) → Blames {T = U} before after (Err error)
+blames_as before after error blames = record { later = blames.later; failed = λ is. blames.failed (ap Err (same_error error ReadFault is)) }
+
+blames_later : {T : Type 0} (a b c : ℕ) (result : Result T AnswerError) → a ≤ b → Blames b c result → Blames a c result
+blames_later a b c result le blames = record { later = omega (arith, blames.later); failed = λ is. rose-then a b c le (blames.failed is) }
+
+no_blame : {T : Type 0} (a b : ℕ) (value : T) → a ≤ b → Blames {T = T} a b (Ok value)
+no_blame a b value le = record { later = le; failed = λ is. absurd (cc) }
+
+module _ {T U : Type 0} (wanted : Coming → Result U AnswerError) (later : Coming → Result T AnswerError) (change : Result T AnswerError → Result U AnswerError) (a b c : Stream) (h : IsThrough wanted later change a b) where
+  through_needed : (got : List ℕ) → IsNeeded answer_limit later TooLong b.lines got → IsNeeded answer_limit wanted TooLong a.lines (h.got ++ got)
+  through_needed got (inl none) = needed-kept answer_limit wanted TooLong a.lines h.got got none h.needed
+  through_needed got (inr last) =
+      needed-last answer_limit wanted TooLong a.lines h.got last.front last.piece got last.parts last.few (h.same true last.front ∙ (ap change last.undecided ∙ h.errors TooLong))
+
+  -- an answer that is settled is settled before
+  through_same : (got : List ℕ) (r : Result T AnswerError) (more : Bool) (rest : List ℕ) → later (coming_in more answer_limit b.lines (got ++ rest)) ≡ r → wanted (coming_in more answer_limit a.lines ((h.got ++ got) ++ rest)) ≡ change r
+  through_same got r more rest is =
+      ap (λ l. wanted (coming_in more answer_limit a.lines l)) (append_assoc h.got got rest) ∙ (h.same more (got ++ rest) ∙ ap change is)
+
+  through_settles : (got : List ℕ) (e : AnswerError) → Settles answer_limit later b.lines got (Err e) → Settles answer_limit wanted a.lines (h.got ++ got) (Err e)
+  through_settles got e settles more rest = through_same got (Err e) more rest (settles more rest) ∙ h.errors e
+
+  through_stops : (n : Bool) (got : List ℕ) (e : AnswerError) → StopsAs n later b c got e → StopsAs n wanted a c (h.got ++ got) e
+  through_stops n got (Form line) (inl settles) = inl (through_settles got (Form line) settles)
+  through_stops n got (Form line) (inr ended) =
+      inr (h.same false got ∙ (ap change ended.0 ∙ h.errors (Form line)), ended-then a.left b.left c.left h.got h.consumes ended.1)
+  through_stops n got BadInstance stops = through_settles got BadInstance stops
+  through_stops n got TooLong stops = through_settles got TooLong stops
+  through_stops n got ReadFault stops = h.same true got ∙ (ap change stops ∙ h.errors TooLong)
+  through_stops n got NoMemory stops = stops
+
+module _ {T U : Type 0} (n : Bool) (wanted : Coming → Result (U × Coming) AnswerError) (later : Coming → Result (T × Coming) AnswerError) (change : Result (T × Coming) AnswerError → Result (U × Coming) AnswerError) (a b c : Stream) (h : IsThrough wanted later change a b) where
+  -- an error that comes later
+  pub through_error : (e : AnswerError) → ReadWith {T = T} n later b c (Err e) → ReadWith {T = U} n wanted a c (Err e)
+  through_error e k = record {
+    got = h.got ++ k.got;
+    consumes = Consumes-then a.left b.left c.left h.got k.got h.consumes k.consumes;
+    needed = through_needed wanted later change a b c h k.got k.needed;
+    reads = through_stops wanted later change a b c h n k.got e k.reads;
+    blames = blames_later a.faults b.faults c.faults (Err e) h.rises (blames_as b.faults c.faults e k.blames);
+  }
+
+  -- a value that is read later
+  pub through_value : (v : T) (w : U) → ((r : Coming) → change (Ok (v, r)) ≡ Ok (w, r)) → ReadWith n later b c (Ok v) → ReadWith n wanted a c (Ok w)
+  through_value v w is k = record {
+    got = h.got ++ k.got;
+    consumes = Consumes-then a.left b.left c.left h.got k.got h.consumes k.consumes;
+    needed = through_needed wanted later change a b c h k.got k.needed;
+    reads = λ more rest. through_same wanted later change a b c h k.got (Ok (v, coming_in more answer_limit c.lines rest)) more rest (k.reads more rest) ∙ is (coming_in more answer_limit c.lines rest);
+    blames = no_blame a.faults c.faults w (omega (arith, h.rises, k.blames.later));
+  }
+
+  -- memory is wanted
+  pub through_no_memory : ReadWith {T = U} true wanted a b (Err NoMemory)
+  through_no_memory = record {
+    got = h.got;
+    consumes = h.consumes;
+    needed = h.needed;
+    reads = refl;
+    blames = record { later = h.rises; failed = λ is. absurd (let no : NoMemory ≡ ReadFault = same_error NoMemory ReadFault is in cc) };
+  }
+
+pub through_then : {T U V : Type 0} (wanted : Coming → Result V AnswerError) (later : Coming → Result U AnswerError) (last : Coming → Result T AnswerError) (change : Result U AnswerError → Result V AnswerError) (change' : Result T AnswerError → Result U AnswerError)
+    (a b c : Stream) → IsThrough wanted later change a b → IsThrough later last change' b c → IsThrough wanted last (λ r. change (change' r)) a c
+through_then wanted later last change change' a b c h k = record {
+  got = h.got ++ k.got;
+  consumes = Consumes-then a.left b.left c.left h.got k.got h.consumes k.consumes;
+  needed = through_needed wanted later change a b c h k.got k.needed;
+  same = λ more rest. through_same wanted later change a b c h k.got (change' (last (coming_in more answer_limit c.lines rest))) more rest (k.same more rest);
+  errors = λ e. ap change (k.errors e) ∙ h.errors e;
+  rises = omega (arith, h.rises, k.rises);
+}
+
+stops_lines : {T : Type 0} (n : Bool) (wanted : Coming → Result T AnswerError) (a b : Stream) (lines : LinesState) (got : List ℕ) (e : AnswerError) → StopsAs n wanted a b got e → StopsAs n wanted a (record b { lines = lines }) got e
+stops_lines n wanted a b lines got (Form line) stops = stops
+stops_lines n wanted a b lines got BadInstance stops = stops
+stops_lines n wanted a b lines got TooLong stops = stops
+stops_lines n wanted a b lines got ReadFault stops = stops
+stops_lines n wanted a b lines got NoMemory stops = stops
+
+-- what fails as another thing does that was wanted
+pub needed_also : {T U : Type 0} (f : Coming → Result T AnswerError) (g : Coming → Result U AnswerError) → ((r : Coming) (e : AnswerError) → f r ≡ Err e → g r ≡ Err e)
+    → (s : LinesState) (got : List ℕ) → IsNeeded answer_limit f TooLong s got → IsNeeded answer_limit g TooLong s got
+needed_also f g also s got (inl none) = inl none
+needed_also f g also s got (inr last) = inr (record { front = last.front; piece = last.piece; parts = last.parts; few = last.few; undecided = also _ TooLong last.undecided })
+
+pub error_also : {T U : Type 0} (n : Bool) (f : Coming → Result (T × Coming) AnswerError) (g : Coming → Result (U × Coming) AnswerError) → ((r : Coming) (e : AnswerError) → f r ≡ Err e → g r ≡ Err e)
+    → (a b : Stream) (e : AnswerError) → ReadWith {T = T} n f a b (Err e) → ReadWith {T = U} n g a b (Err e)
+error_also n f g also a b e h = record {
+  got = h.got;
+  consumes = h.consumes;
+  needed = needed_also f g also a.lines h.got h.needed;
+  reads = by_error e h.reads;
+  blames = blames_as a.faults b.faults e h.blames;
+}
+  where
+    by_error : (e : AnswerError) → StopsAs n f a b h.got e → StopsAs n g a b h.got e
+    by_error (Form line) (inl settles) = inl (λ more rest. also _ (Form line) (settles more rest))
+    by_error (Form line) (inr ended) = inr (also _ (Form line) ended.0, ended.1)
+    by_error BadInstance settles = λ more rest. also _ BadInstance (settles more rest)
+    by_error TooLong settles = λ more rest. also _ TooLong (settles more rest)
+    by_error ReadFault undecided = also _ TooLong undecided
+    by_error NoMemory takes = takes
+
+-- at an error it doesn't count what the lines hold
+pub error_lines : {T : Type 0} {n : Bool} (wanted : Coming → Result (T × Coming) AnswerError) (a b : Stream) (lines : LinesState) (e : AnswerError) → ReadWith {T = T} n wanted a b (Err e) → ReadWith {T = T} n wanted a (record b { lines = lines }) (Err e)
+error_lines {n = n} wanted a b lines e h = record { got = h.got; consumes = h.consumes; needed = h.needed; reads = stops_lines n wanted a b lines h.got e h.reads; blames = h.blames }
+
+-- what is wanted in other words
+pub read_also : {T : Type 0} (n : Bool) (f g : Coming → Result (T × Coming) AnswerError) → ((r : Coming) → f r ≡ g r) → (a b : Stream) (result : Result T AnswerError) → ReadWith n f a b result → ReadWith n g a b result
+read_also n f g same a b (Ok v) h = record {
+  got = h.got;
+  consumes = h.consumes;
+  needed = needed_also f g (λ r e is. sym (same r) ∙ is) a.lines h.got h.needed;
+  reads = λ more rest. sym (same (coming_in more answer_limit a.lines (h.got ++ rest))) ∙ h.reads more rest;
+  blames = h.blames;
+}
+read_also n f g same a b (Err e) h = error_also n f g (λ r e is. sym (same r) ∙ is) a b e h
+
+-- ---- one call after another
+module _ {T U : Type 0} (f : Coming → Result (T × Coming) AnswerError) (g : T → Coming → Result (U × Coming) AnswerError) where
+  abbrev both : Coming → Result (U × Coming) AnswerError
+  both r = and_then (f r) (λ x. g x.0 x.1)
+
+  abbrev rest_of : Result (T × Coming) AnswerError → Result (U × Coming) AnswerError
+  rest_of r = and_then r (λ x. g x.0 x.1)
+
+  both_needed : (s : LinesState) (got : List ℕ) → IsNeeded answer_limit f TooLong s got → IsNeeded answer_limit both TooLong s got
+  both_needed s got (inl none) = inl none
+  both_needed s got (inr last) = inr (record { front = last.front; piece = last.piece; parts = last.parts; few = last.few; undecided = ap rest_of last.undecided })
+
+  after_value : {m : Bool} (a b : Stream) (v : T) → ReadWith m f a b (Ok v) → IsThrough both (g v) (λ r. r) a b
+  after_value a b v h = record {
+    got = h.got;
+    consumes = h.consumes;
+    needed = both_needed a.lines h.got h.needed;
+    same = λ more rest. ap rest_of (h.reads more rest);
+    errors = λ e. refl;
+    rises = h.blames.later;
+  }
+
+  from_start : (a : Stream) → IsThrough both f rest_of a a
+  from_start a = record { got = []; consumes = Consumes-none a.left; needed = inl refl; same = λ more rest. refl; errors = λ e. refl; rises = omega arith }
+
+  -- the first read a value, and the second answers
+  pub read_then : {m n : Bool} (a b c : Stream) (v : T) (result : Result U AnswerError) → ReadWith m f a b (Ok v) → ReadWith n (g v) b c result → ReadWith n both a c result
+  read_then {n = n} a b c v (Ok w) h k = through_value n both (g v) (λ r. r) a b c (after_value a b v h) w w (λ r. refl) k
+  read_then {n = n} a b c v (Err e) h k = through_error n both (g v) (λ r. r) a b c (after_value a b v h) e k
+
+  -- the first failed
+  pub read_stop : {n : Bool} (a b : Stream) (e : AnswerError) (result : Result U AnswerError) → IsErrAnd result (λ x. x ≡ e) → ReadWith {T = T} n f a b (Err e) → ReadWith n both a b result
+  read_stop a b e (Ok w) is h = absurd is
+  read_stop {n = n} a b e (Err x) is h =
+      subst (λ (y : AnswerError). ReadWith {T = U} n both a b (Err y)) (sym is) (through_error n both f rest_of a a b (from_start a) e h)
+
+-- ---- calls that read nothing
+pub read_none : {T : Type 0} {n : Bool} (wanted : Coming → Result (T × Coming) AnswerError) (a : Stream) (v : T)
+    → ((more : Bool) (rest : List ℕ) → wanted (coming_in more answer_limit a.lines rest) ≡ Ok (v, coming_in more answer_limit a.lines rest)) → ReadWith n wanted a a (Ok v)
+read_none wanted a v is = record { got = []; consumes = Consumes-none a.left; needed = inl refl; reads = is; blames = no_blame a.faults a.faults v (omega arith) }
+
+pub settled_here : {T : Type 0} {n : Bool} (wanted : Coming → Result (T × Coming) AnswerError) (a : Stream) → Settles answer_limit wanted a.lines [] (Err BadInstance) → ReadWith {T = T} n wanted a a (Err BadInstance)
+settled_here wanted a settles = record {
+  got = [];
+  consumes = Consumes-none a.left;
+  needed = inl refl;
+  reads = settles;
+  blames = record { later = omega arith; failed = λ is. absurd (let no : BadInstance ≡ ReadFault = same_error BadInstance ReadFault is in cc) };
+}
+
+pub memory_here : {T : Type 0} (wanted : Coming → Result (T × Coming) AnswerError) (a : Stream) → ReadWith {T = T} true wanted a a (Err NoMemory)
+memory_here wanted a = record {
+  got = [];
+  consumes = Consumes-none a.left;
+  needed = inl refl;
+  reads = refl;
+  blames = record { later = omega arith; failed = λ is. absurd (let no : NoMemory ≡ ReadFault = same_error NoMemory ReadFault is in cc) };
+}
+
+-- what needs no memory may be said of one that takes it
+pub in_memory : {T : Type 0} {n : Bool} (wanted : Coming → Result (T × Coming) AnswerError) (a b : Stream) (result : Result T AnswerError) → ReadWith false wanted a b result → ReadWith n wanted a b result
+in_memory wanted a b (Ok v) h = record { got = h.got; consumes = h.consumes; needed = h.needed; reads = h.reads; blames = h.blames }
+in_memory {n = n} wanted a b (Err e) h = record { got = h.got; consumes = h.consumes; needed = h.needed; reads = by_error e h.reads; blames = h.blames }
+  where
+    by_error : (e : AnswerError) → StopsAs false wanted a b h.got e → StopsAs n wanted a b h.got e
+    by_error (Form line) stops = stops
+    by_error BadInstance stops = stops
+    by_error TooLong stops = stops
+    by_error ReadFault stops = stops
+    by_error NoMemory stops = absurd (cc)
+
+-- ---- lines
+pub line_needed : {T : Type 0} (wanted : Coming → Result T LineError) (s : LinesState) (got : List ℕ) → IsNeeded answer_limit wanted LineTooLong s got → IsNeeded answer_limit (λ r. in_answer (wanted r)) TooLong s got
+line_needed wanted s got (inl none) = inl none
+line_needed wanted s got (inr last) = inr (record { front = last.front; piece = last.piece; parts = last.parts; few = last.few; undecided = ap in_answer last.undecided })
+
+pub line_read : {n : Bool} (a b : Stream) (line : List ℕ) → IsLine answer_limit a b line → ReadWith n answer_line a b (Ok line)
+line_read a b line h = record {
+  got = h.got;
+  consumes = h.consumes;
+  needed = line_needed next_line a.lines h.got h.needed;
+  reads = λ more rest. ap in_answer (h.reads more rest);
+  blames = no_blame a.faults b.faults line h.later;
+}
+
+module _ {T : Type 0} (wanted : Coming → Result T LineError) (a b : Stream) where
+  stopped_as : (n : Bool) (got : List ℕ) (e : LineError) → (h : IsStopped answer_limit wanted a b e) → StopsAs n (λ r. in_answer (wanted r)) a b h.got (answer_error e)
+  stopped_as n got (Missing line) h = inr (ap in_answer h.stops.0, h.stops.1)
+  stopped_as n got (Surplus line) h = inl (λ more rest. ap in_answer (h.stops more rest))
+  stopped_as n got LineTooLong h = λ more rest. ap in_answer (h.stops more rest)
+  stopped_as n got SourceFailed h = ap in_answer h.stops
+
+  stopped_blames : {U : Type 0} (e : LineError) → IsStopped answer_limit wanted a b e → Blames {T = U} a.faults b.faults (Err (answer_error e))
+  stopped_blames e h = record { later = h.blames.later; failed = λ is. by_error e h (same_error (answer_error e) ReadFault is) }
+    where
+      by_error : (e : LineError) → IsStopped answer_limit wanted a b e → answer_error e ≡ ReadFault → Rose a.faults b.faults
+      by_error (Missing line) h is = absurd (cc)
+      by_error (Surplus line) h is = absurd (cc)
+      by_error LineTooLong h is = absurd (cc)
+      by_error SourceFailed h is = h.blames.failed refl
+
+pub line_stopped : {n : Bool} (a b : Stream) (e : LineError) → IsStopped answer_limit next_line a b e → ReadWith {T = List ℕ} n answer_line a b (Err (answer_error e))
+line_stopped {n = n} a b e h = record {
+  got = h.got;
+  consumes = h.consumes;
+  needed = line_needed next_line a.lines h.got h.needed;
+  reads = stopped_as next_line a b n h.got e h;
+  blames = stopped_blames next_line a b e h;
+}
+
+-- ---- a line of a form
+kept_form : {T : Type 0} (form : List ℕ → Option T) → form [] ≡ None → ((line : List ℕ) → 4096 ≤ length line → form line ≡ None)
+    → (line kept : List ℕ) → IsKept kept line → form line ≡ form kept
+kept_form form none long line kept (inl same) = ap form (sym same)
+kept_form form none long line kept (inr lost) = long line lost.1 ∙ (sym none ∙ ap form (sym lost.0))
+
+formed_here : {T : Type 0} {n : Bool} (form : List ℕ → Option T) (line : List ℕ) (b : Stream) (at : ℕ) (value : Option T) → form line ≡ value → at ≡ b.lines.line
+    → ReadWith n (λ r. or_form (form line) r) b b (ok_or value (Form at))
+formed_here form line b at (Some v) is same = read_none (λ r. or_form (form line) r) b v (λ more rest. ap (λ o. or_form o (coming_in more answer_limit b.lines rest)) is)
+formed_here form line b at None is same = record {
+  got = [];
+  consumes = Consumes-none b.left;
+  needed = inl refl;
+  reads = inl (λ more rest. ap (λ o. or_form o (coming_in more answer_limit b.lines rest)) is ∙ ap (λ k. Err (Form k)) (sym same));
+  blames = record { later = omega arith; failed = λ e. absurd (let no : Form at ≡ ReadFault = same_error (Form at) ReadFault e in cc) };
+}
+
+-- what is said of the line that was kept is said of the line that was read
+pub formed_read : {T : Type 0} {n : Bool} (form : List ℕ → Option T) → form [] ≡ None → ((line : List ℕ) → 4096 ≤ length line → form line ≡ None)
+    → (a b : Stream) (done : ⊤) (text : List ℕ) (value : Option T) (at : ℕ) (result : Result T AnswerError)
+    → LineRead answer_limit a b (Ok done) → result ≡ ok_or value (Form at) → value ≡ form text → text ≡ b.lines.kept → at ≡ b.lines.line → ReadWith n (formed form) a b result
+formed_read {n = n} form none long a b done text value at result h is of_text same_text same_line =
+    let one : form h.0 ≡ value = kept_form form none long h.0 b.lines.kept h.2 ∙ (ap form (sym same_text) ∙ sym of_text) in
+    rw is (read_then answer_line (λ line r. or_form (form line) r) {m = n} {n = n} a b b h.0 (ok_or value (Form at)) (line_read a b h.0 h.1) (formed_here form h.0 b at value one same_line))
+
+-- no line was read
+pub formed_stopped : {T : Type 0} {n : Bool} (form : List ℕ → Option T) (a b : Stream) (e : LineError) (result : Result T AnswerError)
+    → LineRead answer_limit a b (Err e) → IsErrAnd result (λ x. x ≡ answer_error e) → ReadWith n (formed form) a b result
+formed_stopped form a b e result h is = read_stop answer_line (λ line r. or_form (form line) r) a b (answer_error e) result is (line_stopped a b e h)
+
+-- ---- what public calls say
+told_read : {T : Type 0} (n : Bool) (wanted : Coming → Result (T × Coming) AnswerError) (s t : LinesState) (x y : ℕ) (l k : Option (List ℕ)) (result : Result T AnswerError)
+    → ReadWith n wanted (record { lines = s; left = l; faults = x }) (record { lines = t; left = k; faults = y }) result
+    → IfSome (option_map (coming_in false answer_limit s) l) (λ before. ReadsTo (wanted before) (option_map (coming_in false answer_limit t) k) result)
+told_read n wanted s t x y None k result h = tt
+told_read n wanted s t x y (Some l) None result h = absurd h.consumes
+told_read n wanted s t x y (Some l) (Some k) (Ok v) h =
+    (coming_in false answer_limit t k, ap (λ m. wanted (coming_in false answer_limit s m)) h.consumes ∙ h.reads false k, refl)
+told_read n wanted s t x y (Some l) (Some k) (Err e) h = by_error e h.reads
+  where
+    by_error : (e : AnswerError) → StopsAs n wanted (record { lines = s; left = Some l; faults = x }) (record { lines = t; left = Some k; faults = y }) h.got e → FailsAs (wanted (coming_in false answer_limit s l)) e
+    by_error (Form line) (inl settles) = ap (λ m. wanted (coming_in false answer_limit s m)) h.consumes ∙ settles false k
+    by_error (Form line) (inr ended) =
+        let none : k ≡ [] = cc in
+        ap (λ m. wanted (coming_in false answer_limit s m)) (h.consumes ∙ (ap (λ m. h.got ++ m) none ∙ append-nil h.got)) ∙ ended.0
+    by_error BadInstance settles = ap (λ m. wanted (coming_in false answer_limit s m)) h.consumes ∙ settles false k
+    by_error TooLong settles = ap (λ m. wanted (coming_in false answer_limit s m)) h.consumes ∙ settles false k
+    by_error ReadFault open_ = tt
+    by_error NoMemory takes = tt
+
+-- what a call reads, where the source tells its bytes
+pub reads_to : {T : Type 0} {n : Bool} (wanted : Coming → Result (T × Coming) AnswerError) (a b : Stream) (result : Result T AnswerError) → ReadWith n wanted a b result
+    → IfSome (option_map (coming_in false answer_limit a.lines) a.left) (λ before. ReadsTo (wanted before) (option_map (coming_in false answer_limit b.lines) b.left) result)
+reads_to {n = n} wanted a b result h = told_read n wanted a.lines b.lines a.faults b.faults a.left b.left result h
+
+pub takes_none : {T : Type 0} (wanted : Coming → Result (T × Coming) AnswerError) (a b : Stream) (result : Result T AnswerError) → ReadWith false wanted a b result → TakesNone result
+takes_none wanted a b (Ok v) h = tt
+takes_none wanted a b (Err (Form line)) h = tt
+takes_none wanted a b (Err BadInstance) h = tt
+takes_none wanted a b (Err TooLong) h = tt
+takes_none wanted a b (Err ReadFault) h = tt
+takes_none wanted a b (Err NoMemory) h = absurd (let no : false ≡ true = h.reads in cc)
+
+-- ---- the end
+pub end_read : (a b : Stream) (done : ⊤) → LinesEndRead answer_limit a b (Ok done) → EndRead a b (Ok tt)
+end_read a b done h = h
+
+pub end_stopped : (a b : Stream) (e : LineError) (result : Result ⊤ AnswerError) → LinesEndRead answer_limit a b (Err e) → IsErrAnd result (λ x. x ≡ answer_error e) → EndRead a b result
+end_stopped a b e (Ok done) h is = absurd is
+end_stopped a b e (Err x) h is =
+    subst (λ (y : AnswerError). let r : Result ⊤ AnswerError = Err y in EndRead a b r) (sym is) (record {
+      got = h.got;
+      consumes = h.consumes;
+      needed = line_needed input_end a.lines h.got h.needed;
+      stops = stopped_as input_end a b false h.got e h;
+      blames = stopped_blames input_end a b e h;
+    })
+
+told_end : (s t : LinesState) (x y : ℕ) (l k : Option (List ℕ)) (result : Result ⊤ AnswerError) → EndRead (record { lines = s; left = l; faults = x }) (record { lines = t; left = k; faults = y }) result
+    → IfSome (option_map (coming_in false answer_limit s) l) (λ before. EndsAs (end_of before) k result)
+told_end s t x y None k result h = tt
+told_end s t x y (Some l) None (Ok done) h = absurd h.consumes
+told_end s t x y (Some l) None (Err e) h = absurd h.consumes
+told_end s t x y (Some l) (Some k) (Ok done) h =
+    let none : k ≡ [] = let e = h.left in cc in
+    (ap (λ m. end_of (coming_in false answer_limit s m)) (h.consumes ∙ none) ∙ ap in_answer h.ends, h.left)
+told_end s t x y (Some l) (Some k) (Err e) h = by_error e h.stops
+  where
+    by_error : (e : AnswerError) → StopsAs false end_of (record { lines = s; left = Some l; faults = x }) (record { lines = t; left = Some k; faults = y }) h.got e → FailsAs (end_of (coming_in false answer_limit s l)) e
+    by_error (Form line) (inl settles) = ap (λ m. end_of (coming_in false answer_limit s m)) h.consumes ∙ settles false k
+    by_error (Form line) (inr ended) =
+        let none : k ≡ [] = cc in
+        ap (λ m. end_of (coming_in false answer_limit s m)) (h.consumes ∙ (ap (λ m. h.got ++ m) none ∙ append-nil h.got)) ∙ ended.0
+    by_error BadInstance settles = ap (λ m. end_of (coming_in false answer_limit s m)) h.consumes ∙ settles false k
+    by_error TooLong settles = ap (λ m. end_of (coming_in false answer_limit s m)) h.consumes ∙ settles false k
+    by_error ReadFault open_ = tt
+    by_error NoMemory takes = tt
+
+-- the end that is read, where the source tells its bytes
+pub ends_as : (a b : Stream) (result : Result ⊤ AnswerError) → EndRead a b result → IfSome (option_map (coming_in false answer_limit a.lines) a.left) (λ before. EndsAs (end_of before) b.left result)
+ends_as a b result h = told_end a.lines b.lines a.faults b.faults a.left b.left result h
+
+pub end_takes_none : (a b : Stream) (result : Result ⊤ AnswerError) → EndRead a b result → TakesNone result
+end_takes_none a b (Ok done) h = tt
+end_takes_none a b (Err (Form line)) h = tt
+end_takes_none a b (Err BadInstance) h = tt
+end_takes_none a b (Err TooLong) h = tt
+end_takes_none a b (Err ReadFault) h = tt
+end_takes_none a b (Err NoMemory) h = absurd (let no : false ≡ true = h.stops in cc)
+
+pub end_blames : (a b : Stream) (result : Result ⊤ AnswerError) → EndRead a b result → Blames a.faults b.faults result
+end_blames a b (Ok done) h = no_blame a.faults b.faults done h.later
+end_blames a b (Err e) h = h.blames
+
+-- after the end it doesn't count what the lines hold
+pub end_lines : (a b : Stream) (lines : LinesState) (result : Result ⊤ AnswerError) → EndRead a b result → EndRead a (record b { lines = lines }) result
+end_lines a b lines (Ok done) h = record { ends = h.ends; consumes = h.consumes; left = h.left; later = h.later }
+end_lines a b lines (Err e) h = record { got = h.got; consumes = h.consumes; needed = h.needed; stops = stops_lines false end_of a b lines h.got e h.stops; blames = h.blames }

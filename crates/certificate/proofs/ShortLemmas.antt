@@ -8,12 +8,12 @@ use Rattle.std.proofs.lemmas.Int.{ints}
 use Rattle.std.proofs.lemmas.List.{length-drop, length-append}
 use Rattle.std.proofs.lemmas.Fmt.{length-decimal-le}
 use Rattle.text_lines.specs.Numbers.{number_of}
-use Rattle.text_lines.specs.Words.{joined}
+use Rattle.text_lines.specs.Words.{line_bytes}
 use Rattle.siting_definitions.specs.Point.{Pt}
 use Rattle.siting_definitions.specs.Square.{Square, IsSquare}
 use Rattle.siting_definitions.specs.AnswerText.{root_line}
 use Rattle.siting_definitions.proofs.Integers.{int_le-true}
-use Rattle.certificate.specs.Forms.{only_if, ranged, canonical_within, canonical_64, after_word, at_space, two_numbers, number_form, site_in, site_form, costs_in, cost_form, optional_number, bound_form, root_form, lettered, numbered_mark, item_form}
+use Rattle.certificate.specs.Forms.{only_if, ranged, canonical_within, canonical_64, after_word, at_space, two_numbers, number_form, version_form, site_in, site_form, costs_in, cost_form, optional_number, bound_form, word_in, word_form, root_form, lettered, numbered_mark, item_form}
 use Rattle.certificate.proofs.FormLemmas.{most_64, least_64, and_first, and_second}
 
 -- ---- numbers
@@ -145,6 +145,14 @@ cost_short site line long = through_word (codes "cost") line (costs_in site) (om
     by_site None rest more = rw (not_word rest (codes "none") (omega arith)) refl
     by_site (Some z) rest more = rw (two_short _ _ least_fits most_fits rest more) refl
 
+pub version_short : (line : List ℕ) → 4096 ≤ length line → version_form line ≡ None
+version_short line long = rw (not_word line (codes "siting answer 1") (omega arith), not_word line (codes "siting answer 2") (omega arith)) refl
+
+pub word_short : (line : List ℕ) → 4096 ≤ length line → word_form line ≡ None
+word_short line long =
+    through_word (codes "answer") line word_in (omega arith)
+    (λ rest more. rw (not_word rest (codes "solved") (omega arith), not_word rest (codes "pool_full") (omega arith), not_word rest (codes "budget") (omega arith), not_word rest (codes "floor") (omega arith), not_word rest (codes "empty") (omega arith)) refl)
+
 pub cost_empty : (site : Option Pt) → cost_form site [] ≡ None
 cost_empty None = refl
 cost_empty (Some z) = refl
@@ -155,7 +163,7 @@ bound_short line long =
     (λ rest more. rw (not_word rest (codes "none") (omega arith), number_short rest (omega arith)) refl)
 
 -- the corner of a square within ±2^38 is written in 20 digits at most
-pub root_length : (s : Square) → IsSquare s → length (joined (root_line s)) ≤ 100
+pub root_length : (s : Square) → IsSquare s → length (line_bytes (root_line s)) ≤ 100
 root_length s h =
     let level : s.level ≤ 37 = h.level in
     let left : pos 0 ≤ℤ (s.x +ℤ pos (2 ^ 38)) = h.left in
@@ -170,5 +178,5 @@ root_length s h =
     let first = length-append (codes "root") (32 ∷ (signed_decimal s.x ++ 32 ∷ (signed_decimal s.y ++ 32 ∷ signed_decimal (pos s.level)))) in
     omega arith
 
-pub root_short : (s : Square) → length (joined (root_line s)) ≤ 100 → (line : List ℕ) → 4096 ≤ length line → root_form s line ≡ None
-root_short s short line long = rw (not_word line (joined (root_line s)) (omega arith)) refl
+pub root_short : (s : Square) → length (line_bytes (root_line s)) ≤ 100 → (line : List ℕ) → 4096 ≤ length line → root_form s line ≡ None
+root_short s short line long = rw (not_word line (line_bytes (root_line s)) (omega arith)) refl

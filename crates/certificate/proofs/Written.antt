@@ -10,7 +10,8 @@ use Rattle.siting_definitions.specs.Line.{line_text, text_of}
 use Rattle.siting_definitions.specs.InstanceText.{version_field, instance_lines, instance_text}
 use Rattle.siting_definitions.specs.AnswerText.{number_line, optional_line, site_line, cost_line, word_field, root_line, mark_line, head_lines, answer_text}
 use Rattle.discard_log.specs.declared.node.Node.{Node}
-use Rattle.certificate.specs.Written.{mark_of, node_text}
+use Rattle.discard_log.specs.Nodes.{mark_of}
+use Rattle.certificate.specs.Written.{node_text}
 
 -- two lines
 pub two_lines : (a b : List (List ℕ)) → text_of (a ∷ b ∷ []) ≡ line_text a ++ line_text b
@@ -26,12 +27,17 @@ abbrev outcome_lines : Head → List (List (List ℕ))
 outcome_lines h = (codes "answer" ∷ word_field h.word ∷ []) ∷ number_line (codes "open") h.open_count ∷ number_line (codes "leases") h.leases ∷ []
 
 -- the lines of the head, in the parts in which they are written
-pub head_text-parts : (h : Head) → text_of (head_lines h) ≡ text_of (limits_lines h) ++ (text_of (best_lines h) ++ (line_text (optional_line (codes "bound") h.bound) ++ (text_of (outcome_lines h) ++ line_text (root_line (root_of h.instance)))))
+pub head_text-parts : (h : Head)
+    → text_of (head_lines h)
+    ≡ text_of (limits_lines h) ++ (text_of (best_lines h)
+    ++ (line_text (optional_line (codes "bound") h.bound) ++ (text_of (outcome_lines h) ++ line_text (root_line (root_of h.instance)))))
 head_text-parts h =
     let root : List (List (List ℕ)) = root_line (root_of h.instance) ∷ [] in
     let bound = optional_line (codes "bound") h.bound in
-    let outcome = flat_map-append line_text (outcome_lines h) root ∙ ap (λ bytes. text_of (outcome_lines h) ++ bytes) (append-nil (line_text (root_line (root_of h.instance)))) in
-    let best = flat_map-append line_text (best_lines h) (bound ∷ (outcome_lines h ++ root)) ∙ ap (λ bytes. text_of (best_lines h) ++ (line_text bound ++ bytes)) outcome in
+    let outcome = flat_map-append line_text (outcome_lines h) root
+    ∙ ap (λ bytes. text_of (outcome_lines h) ++ bytes) (append-nil (line_text (root_line (root_of h.instance)))) in
+    let best = flat_map-append line_text (best_lines h) (bound ∷ (outcome_lines h ++ root))
+    ∙ ap (λ bytes. text_of (best_lines h) ++ (line_text bound ++ bytes)) outcome in
     flat_map-append line_text (limits_lines h) (best_lines h ++ bound ∷ (outcome_lines h ++ root)) ∙ ap (λ bytes. text_of (limits_lines h) ++ bytes) best
 
 node_lines : (ns : List Node) → text_of (map mark_line (map mark_of ns)) ≡ flat_map node_text ns
@@ -39,7 +45,10 @@ node_lines [] = refl
 node_lines (n ∷ ns) = ap (λ bytes. node_text n ++ bytes) (node_lines ns)
 
 -- the whole text
-pub answer_text-parts : (h : Head) (ns : List Node) → answer_text (record { head = h; marks = map mark_of ns }) ≡ line_text (codes "siting" ∷ codes "answer" ∷ version_field h.instance ∷ []) ++ (instance_text h.instance ++ (text_of (head_lines h) ++ (flat_map node_text ns ++ codes "end\n")))
+pub answer_text-parts : (h : Head) (ns : List Node)
+    → answer_text (record { head = h; marks = map mark_of ns })
+    ≡ line_text (codes "siting" ∷ codes "answer" ∷ version_field h.instance ∷ [])
+    ++ (instance_text h.instance ++ (text_of (head_lines h) ++ (flat_map node_text ns ++ codes "end\n")))
 unfolding answer_text instance_text
 answer_text-parts h ns =
     let first = line_text (codes "siting" ∷ codes "answer" ∷ version_field h.instance ∷ []) in
@@ -47,5 +56,6 @@ answer_text-parts h ns =
     let marks = map mark_line (map mark_of ns) in
     let marks_text = flat_map-append line_text marks end ∙ ap (λ bytes. bytes ++ codes "end\n") (node_lines ns) in
     let head_text = flat_map-append line_text (head_lines h) (marks ++ end) ∙ ap (λ bytes. text_of (head_lines h) ++ bytes) marks_text in
-    let instance_part = flat_map-append line_text (instance_lines h.instance) (head_lines h ++ (marks ++ end)) ∙ ap (λ bytes. text_of (instance_lines h.instance) ++ bytes) head_text in
+    let instance_part = flat_map-append line_text (instance_lines h.instance) (head_lines h ++ (marks ++ end))
+    ∙ ap (λ bytes. text_of (instance_lines h.instance) ++ bytes) head_text in
     ap (λ bytes. first ++ bytes) instance_part

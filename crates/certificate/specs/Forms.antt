@@ -1,11 +1,11 @@
 -- The forms of the lines of an answer, each with the value that a line of the form has. A number is in canonical decimal, and in its range.
-use Rattle.std.specs.Prelude.{ℕ, ◌+◌, ◌-◌, ◌^◌, ◌==◌, nat_eq, ℤ, pos, int_le, neg_ℤ, Bool, true, false, cond, ◌&&◌, if◌then◌else◌, List, [], ◌∷◌, ◌++◌, drop, length, codes, Option, Some, None}
+use Rattle.std.specs.Prelude.{ℕ, ◌+◌, ◌-◌, ◌^◌, ◌==◌, nat_eq, ℤ, pos, int_le, neg_ℤ, Bool, true, false, ◌&&◌, if◌then◌else◌, List, [], ◌∷◌, ◌++◌, drop, length, slice_index, codes, Option, Some, None}
 use Rattle.std.specs.Option.{option_map, option_and_then}
 use Rattle.std.specs.List.{starts_with}
 use Rattle.std.specs.Str.{bytes_eq}
 use Rattle.std.specs.Fmt.{signed_decimal}
 use Rattle.text_lines.specs.Numbers.{number_of}
-use Rattle.text_lines.specs.Words.{joined}
+use Rattle.text_lines.specs.Words.{line_bytes}
 use Rattle.siting_definitions.specs.declared.Mark.{Mark}
 use Rattle.siting_definitions.specs.declared.Mark.TheVariants.{Split, Shut, Bounded, Floor as FloorMark, Left}
 use Rattle.siting_definitions.specs.declared.Word.{Word}
@@ -17,9 +17,21 @@ use Rattle.siting_definitions.specs.AnswerText.{root_line}
 use Rattle.certificate.specs.declared.reader.Item.{Item}
 use Rattle.certificate.specs.declared.reader.Item.TheVariants.{Node, End}
 
+-- the greatest gap, in cost units
+abbrev pub most_gap : ℕ
+most_gap = 2 ^ 62
+
+-- the greatest count
+abbrev pub most_count : ℕ
+most_count = 1000000
+
+-- how far a coordinate of a site may be from 0, in grid units
+abbrev pub farthest : ℕ
+farthest = 2 ^ 38
+
 -- v, where the test holds
 abbrev pub only_if : {T : Type 0} → Bool → T → Option T
-only_if test v = cond test (Some v) None
+only_if test v = if test then Some v else None
 
 -- z, where it is from low to high
 abbrev pub ranged : ℤ → ℤ → ℤ → Option ℤ
@@ -69,17 +81,17 @@ version_form line =
     else (if bytes_eq line (codes "siting answer 2") then Some true else None)
 
 abbrev pub gap_form : List ℕ → Option ℤ
-gap_form line = number_form (codes "gap") (pos 0) (pos (2 ^ 62)) line
+gap_form line = number_form (codes "gap") (pos 0) (pos most_gap) line
 
 abbrev pub budget_form : List ℕ → Option ℤ
-budget_form line = number_form (codes "budget") (pos 0) (pos 1000000) line
+budget_form line = number_form (codes "budget") (pos 0) (pos most_count) line
 
 abbrev pub pool_form : List ℕ → Option ℤ
-pool_form line = number_form (codes "pool") (pos 1) (pos 1000000) line
+pool_form line = number_form (codes "pool") (pos 1) (pos most_count) line
 
 -- each coordinate is at most 2 ^ 38 in size
 abbrev pub site_number : List ℕ → Option ℤ
-site_number field = canonical_within (neg_ℤ (pos (2 ^ 38))) (pos (2 ^ 38)) field
+site_number field = canonical_within (neg_ℤ (pos farthest)) (pos farthest) field
 
 abbrev pub site_in : List ℕ → Option (Option Pt)
 site_in rest =
@@ -112,22 +124,26 @@ abbrev pub word_form : List ℕ → Option Word
 word_form line = option_and_then word_in (after_word (codes "answer") line)
 
 abbrev pub open_form : List ℕ → Option ℤ
-open_form line = number_form (codes "open") (pos 0) (pos 1000000) line
+open_form line = number_form (codes "open") (pos 0) (pos most_count) line
 
 abbrev pub leases_form : List ℕ → Option ℤ
-leases_form line = number_form (codes "leases") (pos 0) (pos 1000000) line
+leases_form line = number_form (codes "leases") (pos 0) (pos most_count) line
 
 -- the line of the root
 abbrev pub root_form : Square → List ℕ → Option Square
-root_form root line = only_if (bytes_eq line (joined (root_line root))) root
+root_form root line = only_if (bytes_eq line (line_bytes (root_line root))) root
+
+-- the letter that a text is
+abbrev pub letter_of : List ℕ → ℕ
+letter_of text = slice_index text 0
 
 -- the mark with this letter and this number
 abbrev pub lettered : ℕ → ℤ → Option Mark
 lettered letter z =
-    if letter == 83 then Some (Split (Some z))
-    else (if letter == 66 then Some (Bounded z)
-    else (if letter == 70 then Some (FloorMark z)
-    else (if letter == 79 then Some (Left z) else None)))
+    if letter == letter_of (codes "S") then Some (Split (Some z))
+    else (if letter == letter_of (codes "B") then Some (Bounded z)
+    else (if letter == letter_of (codes "F") then Some (FloorMark z)
+    else (if letter == letter_of (codes "O") then Some (Left z) else None)))
 
 -- the mark of a line of a letter, a space and a number
 abbrev pub numbered_mark : List ℕ → Option Mark

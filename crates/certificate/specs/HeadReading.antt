@@ -1,5 +1,5 @@
 -- The head of an answer as it is read, line by line, and the first fault of its form.
-use Rattle.std.specs.Prelude.{ℕ, ◌+◌, ◌^◌, ℤ, unsigned_abs, Bool, true, false, cond, ◌&&◌, if◌then◌else◌, List, [], ◌∷◌, ◌++◌, length, flat_map, codes, Option, Some, None, Result, Ok, Err, ⊤}
+use Rattle.std.specs.Prelude.{ℕ, ◌+◌, ◌^◌, ℤ, unsigned_abs, Bool, true, false, ◌&&◌, if◌then◌else◌, List, [], ◌∷◌, length, codes, Option, Some, None, Result, Ok, Err, ⊤}
 use Rattle.std.specs.Str.{bytes_eq}
 use Rattle.siting_definitions.specs.declared.Word.{Word}
 use Rattle.siting_definitions.specs.Instance.{Instance}
@@ -9,34 +9,40 @@ use Rattle.siting_definitions.specs.Answer.{Best, Head}
 use Rattle.instance_text.specs.declared.faults.InstanceFault.{InstanceFault}
 use Rattle.instance_text.specs.Reading.{reading, and_then}
 use Rattle.certificate.specs.declared.reader.AnswerError.{AnswerError}
-use Rattle.certificate.specs.declared.reader.AnswerError.TheVariants.{Form, Instance as BadInstance, TooLong}
-use Rattle.certificate.specs.Input.{Input, input_of}
+use Rattle.certificate.specs.declared.reader.AnswerError.TheVariants.{Form, Instance as BadInstance, TooLong, ReadFault}
+use Rattle.line_stream.specs.declared.lines.LineError.{LineError}
+use Rattle.line_stream.specs.declared.lines.LineError.TheVariants.{Missing, Surplus, TooLong as LineTooLong, Failed as SourceFailed}
+use Rattle.line_stream.specs.Input.{Input, input_of, bytes_of}
+use Rattle.line_stream.specs.Coming.{Coming, missing_line, next_line, input_end}
 use Rattle.certificate.specs.Forms.{version_form, gap_form, budget_form, pool_form, site_form, cost_form, bound_form, word_form, open_form, leases_form, root_form}
 
 -- how many bytes of an answer may be read
 abbrev pub answer_limit : ℕ
 answer_limit = 2 ^ 30
 
--- what is still to come, and the number of the last line read
-pub record Coming : Type 0 where
-  pub input : Input
-  pub line : ℕ
-
 -- the beginning of these bytes
 abbrev pub coming_of : List ℕ → Coming
 coming_of bytes = record { input = input_of answer_limit bytes; line = 0 }
 
--- the error where no whole line comes: the input is too long, or the line that is missing isn't of its form
+-- the error of a reader of an answer, of that of its lines: a line that is missing, or that comes
+-- after the last, isn't of its form
+abbrev pub answer_error : LineError → AnswerError
+answer_error (Missing line) = Form line
+answer_error (Surplus line) = Form line
+answer_error LineTooLong = TooLong
+answer_error SourceFailed = ReadFault
+
+abbrev pub in_answer : {T : Type 0} → Result T LineError → Result T AnswerError
+in_answer (Ok value) = Ok value
+in_answer (Err error) = Err (answer_error error)
+
+-- the error where no whole line comes
 abbrev pub missing : Input → ℕ → AnswerError
-missing input line = cond input.goes_on TooLong (Form line)
+missing input line = answer_error (missing_line input line)
 
-abbrev pub next_of : List (List ℕ) → Coming → Result (List ℕ × Coming) AnswerError
-next_of [] r = Err (missing r.input (r.line + 1))
-next_of (line ∷ lines) r = Ok (line, record { input = record r.input { lines = lines }; line = r.line + 1 })
-
--- the next line, and what comes after it
-abbrev pub next_line : Coming → Result (List ℕ × Coming) AnswerError
-next_line r = next_of r.input.lines r
+-- the next line of an answer, and what comes after it
+abbrev pub answer_line : Coming → Result (List ℕ × Coming) AnswerError
+answer_line r = in_answer (next_line r)
 
 abbrev pub or_form : {T : Type 0} → Option T → Coming → Result (T × Coming) AnswerError
 or_form None r = Err (Form r.line)
@@ -44,7 +50,7 @@ or_form (Some v) r = Ok (v, r)
 
 -- the value of the next line, which must be of this form
 abbrev pub formed : {T : Type 0} → (List ℕ → Option T) → Coming → Result (T × Coming) AnswerError
-formed form r = and_then (next_line r) (λ n. or_form (form n.0) n.1)
+formed form r = and_then (answer_line r) (λ n. or_form (form n.0) n.1)
 
 -- a line before the lines of an instance
 abbrev pub add_line : List ℕ → Option (List (List ℕ) × List (List ℕ)) → Option (List (List ℕ) × List (List ℕ))
@@ -56,16 +62,13 @@ abbrev pub part_of : List (List ℕ) → Option (List (List ℕ) × List (List �
 part_of [] = None
 part_of (line ∷ lines) = if bytes_eq line (codes "end") then Some (line ∷ [], lines) else add_line line (part_of lines)
 
-abbrev pub bytes_of : List (List ℕ) → List ℕ
-bytes_of lines = flat_map (λ (line : List ℕ). line ++ 10 ∷ []) lines
-
 abbrev pub same_version : Bool → Bool → Bool
-same_version a b = cond a b (cond b false true)
+same_version a b = if a then b else if b then false else true
 
 -- an instance, where this is its canonical text, of the version that the first line said
 abbrev pub if_canonical : Bool → List ℕ → Result Instance InstanceFault → Option Instance
 if_canonical second bytes (Err fault) = None
-if_canonical second bytes (Ok i) = cond (bytes_eq (instance_text i) bytes && same_version second (has_cutoff i)) (Some i) None
+if_canonical second bytes (Ok i) = if bytes_eq (instance_text i) bytes && same_version second (has_cutoff i) then Some i else None
 
 abbrev pub or_bad_instance : Option Instance → Coming → Result (Instance × Coming) AnswerError
 or_bad_instance None r = Err BadInstance
@@ -145,9 +148,4 @@ head_reading r =
 
 -- Ok where the input ends here, and else the error: a byte that comes makes a line too many
 abbrev pub end_of : Coming → Result ⊤ AnswerError
-end_of r = end_at r.input.lines r.input.partial r
-  where
-    end_at : List (List ℕ) → List ℕ → Coming → Result ⊤ AnswerError
-    end_at [] [] r = cond r.input.goes_on (Err TooLong) (Ok tt)
-    end_at [] (b ∷ bs) r = Err (Form (r.line + 1))
-    end_at (line ∷ lines) partial r = Err (Form (r.line + 1))
+end_of r = in_answer (input_end r)

@@ -1,14 +1,10 @@
-pub mod Inside
 pub mod Written
-pub mod Input
 pub mod Forms
 pub mod FormParts
-pub mod PartReading
 pub mod HeadReading
 pub mod HeadText
-pub mod Tallies
+pub mod Blames
+pub mod AnswerReading
+pub mod PartReading
 pub mod ReaderView
-pub mod ReadSoFar
-pub mod Feeds
-pub mod LineReading
 pub mod Beginnings

@@ -1,13 +1,16 @@
 -- The reading of the lines of the instance.
-use Rattle.std.specs.Prelude.{◌≡◌, ℕ, ◌+◌, Bool, List, ◌∷◌, [], ◌++◌, length, codes, Option, Some, None, option_and_then, bytes_eq, Result, Ok, Err, ⊤}
+use Rattle.std.specs.Prelude.{◌≡◌, ℕ, ◌+◌, ◌≤◌, Bool, List, ◌∷◌, [], ◌++◌, length, codes, Option, Some, None, option_and_then, bytes_eq, Result, Ok, Err, ⊤}
+use Rattle.std.specs.Io.KnownBytes.{Consumes}
 use Rattle.port_io.specs.Bytes.{told}
+use Rattle.line_stream.specs.Input.{bytes_of}
+use Rattle.line_stream.specs.Coming.{Coming}
+use Rattle.line_stream.specs.Stream.{Stream, coming_in, IsNeeded}
 use Rattle.siting_definitions.specs.Instance.{Instance}
 use Rattle.instance_text.specs.Reading.{reading}
 use Rattle.certificate.specs.declared.reader.AnswerError.{AnswerError}
 use Rattle.certificate.specs.declared.reader.AnswerError.TheVariants.{Form, Instance as BadInstance, TooLong, ReadFault, NoMemory}
-use Rattle.certificate.specs.HeadReading.{Coming, next_line, missing, part_of, bytes_of, if_canonical}
-use Rattle.certificate.specs.ReaderView.{FailsAs}
-use Rattle.certificate.specs.LineReading.{after_front}
+use Rattle.certificate.specs.HeadReading.{answer_limit, answer_line, missing, part_of, if_canonical}
+use Rattle.certificate.specs.AnswerReading.{ReadInMemory}
 
 -- how many bytes of the instance are kept
 abbrev pub part_limit : ℕ
@@ -33,58 +36,42 @@ lines_in (Some parts) r = Ok (bytes_of parts.0, record { input = record r.input 
 abbrev pub part_reading : Coming → Result (List ℕ × Coming) AnswerError
 part_reading r = lines_in (part_of r.input.lines) r
 
--- within a line, of which this front was kept
-pub record InRest (r : Coming) (after : Option Coming) (part now : Option (List ℕ)) : Type 0 where
-  pub front : List ℕ
-  pub rest : Coming
-  pub goes_on : after ≡ Some rest
-  pub reads : next_line r ≡ after_front front (next_line rest)
-  pub grows : Grows part now front
+-- these bytes before those of the part that is read, where one is
+abbrev pub after_part : List ℕ → Result (List ℕ × Coming) AnswerError → Result (List ℕ × Coming) AnswerError
+after_part bytes (Ok read) = Ok (bytes ++ read.0, read.1)
+after_part bytes (Err error) = Err error
 
--- within the lines of the instance, of which these bytes were kept
-pub record InPart (r : Coming) (after : Option Coming) (part : Option (List ℕ)) : Type 0 where
-  pub bytes : List ℕ
-  pub rest : Coming
-  pub goes_on : after ≡ Some rest
-  pub reads : part_reading r ≡ after_front bytes (part_reading rest)
-  pub keeps : part ≡ kept_part bytes
-
--- the rest of a line was read, and is kept with its line feed
-pub record IsRest (r : Coming) (after : Option Coming) (part now : Option (List ℕ)) : Type 0 where
-  pub line : List ℕ
-  pub rest : Coming
-  pub goes_on : after ≡ Some rest
-  pub reads : next_line r ≡ Ok (line, rest)
+-- a line was read, and is kept with its line feed
+pub record LineInPart (before after : Stream) (part now : Option (List ℕ)) (line : List ℕ) : Type 0 where
+  pub reads : ReadInMemory answer_line before after (Ok line)
   pub grows : Grows part now (line ++ 10 ∷ [])
 
-abbrev pub RestRead : Coming → Option Coming → Option (List ℕ) → Option (List ℕ) → Result ⊤ AnswerError → Type 0
-RestRead r after part now (Ok done) = IsRest r after part now
-RestRead r after part now (Err error) = FailsAs (next_line r) error
+-- no line was read
+abbrev pub NoLine : Stream → Stream → AnswerError → Type 0
+NoLine before after error = let r : Result (List ℕ) AnswerError = Err error in ReadInMemory answer_line before after r
 
--- a line was read, and is kept with its line feed; and whether it is "end"
-pub record IsPartLine (r : Coming) (after : Option Coming) (part now : Option (List ℕ)) (is_end : Bool) : Type 0 where
-  pub line : List ℕ
-  pub rest : Coming
-  pub goes_on : after ≡ Some rest
-  pub reads : next_line r ≡ Ok (line, rest)
-  pub grows : Grows part now (line ++ 10 ∷ [])
-  pub ends : is_end ≡ bytes_eq line (codes "end")
+abbrev pub RestRead : Stream → Stream → Option (List ℕ) → Option (List ℕ) → Result ⊤ AnswerError → Type 0
+RestRead before after part now (Ok done) = (line : List ℕ) × LineInPart before after part now line
+RestRead before after part now (Err error) = NoLine before after error
 
-abbrev pub PartLineRead : Coming → Option Coming → Option (List ℕ) → Option (List ℕ) → Result Bool AnswerError → Type 0
-PartLineRead r after part now (Ok is_end) = IsPartLine r after part now is_end
-PartLineRead r after part now (Err error) = FailsAs (next_line r) error
+-- the same, and whether the line is "end"
+abbrev pub PartLineRead : Stream → Stream → Option (List ℕ) → Option (List ℕ) → Result Bool AnswerError → Type 0
+PartLineRead before after part now (Ok is_end) =
+    (line : List ℕ) × LineInPart before after part now line × (is_end ≡ bytes_eq line (codes "end"))
+PartLineRead before after part now (Err error) = NoLine before after error
+
+-- within the lines of the instance, of which these bytes were read
+pub record InPart (before after : Stream) (bytes : List ℕ) : Type 0 where
+  pub got : List ℕ
+  pub consumes : Consumes before.left after.left got
+  pub needed : IsNeeded answer_limit part_reading TooLong before.lines got
+  pub reads : (more : Bool) (rest : List ℕ) → part_reading (coming_in more answer_limit before.lines (got ++ rest)) ≡ after_part bytes (part_reading (coming_in more answer_limit after.lines rest))
+  pub later : before.faults ≤ after.faults
 
 -- the lines of the instance were read and kept
-pub record IsPart (r : Coming) (after : Option Coming) (part : Option (List ℕ)) : Type 0 where
-  pub bytes : List ℕ
-  pub rest : Coming
-  pub goes_on : after ≡ Some rest
-  pub reads : part_reading r ≡ Ok (bytes, rest)
-  pub keeps : part ≡ kept_part bytes
-
-abbrev pub PartRead : Coming → Option Coming → Result (Option (List ℕ)) AnswerError → Type 0
-PartRead r after (Ok part) = IsPart r after part
-PartRead r after (Err error) = FailsAs (part_reading r) error
+abbrev pub PartRead : Stream → Stream → Result (Option (List ℕ)) AnswerError → Type 0
+PartRead before after (Ok part) = (bytes : List ℕ) × ReadInMemory part_reading before after (Ok bytes) × (part ≡ kept_part bytes)
+PartRead before after (Err error) = let r : Result (List ℕ) AnswerError = Err error in ReadInMemory part_reading before after r
 
 -- what is answered of these bytes: the instance of which they are the canonical text, or that they are none
 abbrev pub Canonical : Bool → List ℕ → Result Instance AnswerError → Type 0

@@ -1,20 +1,24 @@
 -- What contracts see of a reader of an answer: what is still to come of the answer, and what a call reads of it.
-use Rattle.std.specs.Prelude.{◌≡◌, ℕ, ◌-◌, List, [], ◌++◌, Option, Some, option_map, Result, Ok, Err, IsErrOf, ◌≤◌, ⊤}
+use Rattle.std.specs.Prelude.{◌≡◌, ℕ, List, [], false, Option, Some, option_map, Result, Ok, Err, ⊤}
 use Rattle.siting_definitions.specs.Answer.{Head}
-use Rattle.port_io.specs.Faults.{Rose}
+use Rattle.line_stream.specs.Coming.{Coming}
+use Rattle.line_stream.specs.Stream.{Stream, stream, coming_in}
 use Rattle.certificate.specs.declared.reader.AnswerReader.{AnswerReader}
 use Rattle.certificate.specs.declared.reader.AnswerError.{AnswerError}
 use Rattle.certificate.specs.declared.reader.AnswerError.TheVariants.{Form, Instance as BadInstance, TooLong, ReadFault, NoMemory}
-use Rattle.certificate.specs.Input.{input_of}
-use Rattle.certificate.specs.HeadReading.{answer_limit, Coming}
-
--- what is still to come where this many bytes and lines were read, these bytes were read ahead, and these are left
-abbrev pub coming_after : ℕ → ℕ → List ℕ → List ℕ → Coming
-coming_after read line held left = record { input = input_of (answer_limit - read) (held ++ left); line = line }
+use Rattle.certificate.specs.HeadReading.{answer_limit}
 
 -- what is still to come of the answer, where the reader's source, with these members, tells its bytes
 abbrev pub coming : {S : Type 0} → (S → Option (List ℕ)) → AnswerReader S → Option Coming
-coming left reader = option_map (coming_after reader.place.read reader.place.line reader.held) (left reader.source.now)
+coming left reader = option_map (coming_in false answer_limit reader.lines) (left reader.source.now)
+
+-- the stream of the reader's lines over a source with these members
+abbrev pub stream_over : {S : Type 0} → (S → Option (List ℕ)) → (S → ℕ) → AnswerReader S → S → Stream
+stream_over left faults reader source = stream left faults reader.lines source
+
+-- the same, over the source that it reads
+abbrev pub stream_of : {S : Type 0} → (S → Option (List ℕ)) → (S → ℕ) → AnswerReader S → Stream
+stream_of left faults reader = stream_over left faults reader reader.source.now
 
 -- which `&mut` to a source the reader reads
 abbrev pub source_of : {S : Type 0} → AnswerReader S → ℕ
@@ -22,15 +26,7 @@ source_of reader = reader.source.ghost_name
 
 -- the number of the last line read
 abbrev pub line_of : {S : Type 0} → AnswerReader S → ℕ
-line_of reader = reader.place.line
-
--- how many bytes were read
-abbrev pub read_of : {S : Type 0} → AnswerReader S → ℕ
-read_of reader = reader.place.read
-
--- the line that was kept
-abbrev pub text_of : {S : Type 0} → AnswerReader S → List ℕ
-text_of reader = reader.kept
+line_of reader = reader.lines.line
 
 -- the source's count of faults
 abbrev pub faults_of : {S : Type 0} → (S → ℕ) → AnswerReader S → ℕ
@@ -58,11 +54,6 @@ BeginsAs left wanted (Err error) = FailsAs wanted error
 abbrev pub EndsAs : Result ⊤ AnswerError → Option (List ℕ) → Result ⊤ AnswerError → Type 0
 EndsAs wanted left (Ok done) = (wanted ≡ Ok tt) × (left ≡ Some [])
 EndsAs wanted left (Err error) = FailsAs wanted error
-
--- the count of faults of a source never falls, and a call answers that the source failed only where the count rose in it
-pub record Blames {T : Type 0} (before after : ℕ) (result : Result T AnswerError) : Type 0 where
-  pub later : before ≤ after
-  pub failed : IsErrOf result ReadFault → Rose before after
 
 -- no memory is wanted
 abbrev pub TakesNone : {T : Type 0} → Result T AnswerError → Type 0

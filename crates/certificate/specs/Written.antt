@@ -1,12 +1,8 @@
 -- The parts of the text of an answer.
 use Rattle.std.specs.Prelude.{ℕ, List}
-use Rattle.siting_definitions.specs.declared.Mark.{Mark}
 use Rattle.siting_definitions.specs.Line.{line_text}
 use Rattle.siting_definitions.specs.AnswerText.{mark_line}
 use Rattle.discard_log.specs.declared.node.Node.{Node}
-
-abbrev pub mark_of : Node → Mark
-mark_of n = n.mark
 
 -- a node's line
 abbrev pub node_text : Node → List ℕ

@@ -1,19 +1,22 @@
 //! Laws of the texts of answers.
 
-ghost use Rattle.std.specs.Prelude.{◌≡◌, ◌↔◌, ◌≤◌, ◌^◌, ℕ, true, false, List, [], ◌++◌, length, codes, Some, Ok, All};
-ghost use Rattle.text_lines.specs.Words.{joined};
+ghost use Rattle.std.specs.Prelude.{◌≡◌, ◌↔◌, ◌+◌, ◌*◌, ◌<◌, ◌≤◌, ℕ, true, false, List, [], ◌++◌, length, codes, Some, Ok, All};
+ghost use Rattle.text_lines.specs.Words.{line_bytes};
 ghost use Rattle.siting_definitions.specs.declared.Mark.{Mark};
 ghost use Rattle.siting_definitions.specs.Answer.{Answer, Head, IsHead, IsMark, IsValid};
 ghost use Rattle.siting_definitions.specs.AnswerText.{answer_text, mark_line};
+ghost use Rattle.line_stream.specs.Input.{input_of, bytes_of};
+ghost use Rattle.line_stream.specs.Coming.{Coming};
+ghost use Rattle.line_stream.specs.Feeds.{are_feedless};
 ghost use Rattle.certificate.specs.declared.reader.Item.TheVariants.{Node, End};
-ghost use Rattle.certificate.specs.Input.{input_of};
 ghost use Rattle.certificate.specs.Forms.{item_form};
-ghost use Rattle.certificate.specs.HeadReading.{Coming, bytes_of, head_reading};
-ghost use Rattle.certificate.specs.HeadText.{are_feedless, IsHeadText};
+ghost use Rattle.certificate.specs.HeadReading.{head_reading};
+ghost use Rattle.certificate.specs.HeadText.{IsHeadText};
 
 /// Two answers whose fields are in their ranges, and which have the same canonical text, are equal.
 pub fn no_text_is_of_two_answers()
-    ensures { (a b : Answer) → IsHead a.head → IsHead b.head → All IsMark a.marks → All IsMark b.marks → answer_text a ≡ answer_text b → a ≡ b }
+    ensures { (a b : Answer) → IsHead a.head → IsHead b.head
+        → All IsMark a.marks → All IsMark b.marks → answer_text a ≡ answer_text b → a ≡ b }
 {}
 
 /// Canonical texts are read, and no others. A head is read exactly where its canonical lines come and its fields are in
@@ -24,22 +27,18 @@ pub fn texts_read_back()
         → head_reading before ≡ Ok (h, after) → IsHead h × IsHeadText h before after }
     ensures head_back { (h : Head) (before after : Coming) → IsHead h → IsHeadText h before after
         → head_reading before ≡ Ok (h, after) }
-    ensures mark { (line : List ℕ) (m : Mark) → item_form line ≡ Some (Node m) → IsMark m × (line ≡ joined (mark_line m)) }
-    ensures mark_back { (m : Mark) → IsMark m → item_form (joined (mark_line m)) ≡ Some (Node m) }
+    ensures mark { (line : List ℕ) (m : Mark) → item_form line ≡ Some (Node m)
+        → IsMark m × (line ≡ line_bytes (mark_line m)) }
+    ensures mark_back { (m : Mark) → IsMark m
+        → item_form (line_bytes (mark_line m)) ≡ Some (Node m) }
     ensures end { (line : List ℕ) → (item_form line ≡ Some End) ↔ (line ≡ codes "end") }
 {}
 
-/// The bytes of an input that was read to its end are those of its lines, each with a line feed after it, and of what comes
-/// after the last. No line has a line feed, and lines that have none are read as they are, where the limit allows it.
-pub fn inputs_are_their_lines()
-    ensures bytes { (limit : ℕ) (bytes : List ℕ) → (input_of limit bytes).goes_on ≡ false
-        → bytes ≡ bytes_of (input_of limit bytes).lines ++ (input_of limit bytes).partial }
-    ensures feedless { (limit : ℕ) (bytes : List ℕ) → are_feedless (input_of limit bytes).lines ≡ true }
-    ensures back { (limit : ℕ) (lines : List (List ℕ)) → are_feedless lines ≡ true → length (bytes_of lines) ≤ limit
-        → input_of limit (bytes_of lines) ≡ record { lines = lines; partial = []; goes_on = false } }
-{}
-
-/// The text of a valid answer has at most 2^30 bytes, which is the most that is read of an answer.
+/// A valid answer has at most 4,000,001 marks, and its text fewer than 100,000,000 bytes: at most 310,000, and 23 more for
+/// each mark.
 pub fn valid_texts_are_short()
-    ensures { (a : Answer) → IsValid a → length (answer_text a) ≤ 2 ^ 30 }
+    ensures marks { (a : Answer) → IsValid a → length a.marks ≤ 4000001 }
+    ensures bytes { (a : Answer) → IsValid a → length (answer_text a) < 100000000 }
+    ensures by_marks { (a : Answer) → IsHead a.head → All IsMark a.marks
+        → length (answer_text a) ≤ 310000 + 23 * length a.marks }
 {}

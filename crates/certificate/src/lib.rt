@@ -1,19 +1,14 @@
 //! The text of an answer: writing it to a sink, and reading it from a source in any pieces.
 #![tactic(auto)]
 
-mod head;
 mod laws;
 mod reader;
-mod tally;
 mod write;
 
-pub use head::Head;
-pub use laws::{
-    inputs_are_their_lines, no_text_is_of_two_answers, texts_read_back, valid_texts_are_short,
-};
+pub use answer_model::{Head, Word};
+pub use laws::{no_text_is_of_two_answers, texts_read_back, valid_texts_are_short};
+pub use line_stream::inputs_are_their_lines;
 pub use reader::{AnswerError, AnswerReader, Item};
-pub use siting_definitions::Word;
-pub use tally::{Tally, is_split, tallies_join};
 pub use write::write_answer;
 
 #[cfg(test)]
@@ -60,13 +55,6 @@ mod tests {
             open_count: 0,
             leases: 0,
         }
-    }
-
-    fn may_be_shared<T: Send + Sync>(_value: &T) {}
-
-    #[test]
-    fn threads_may_share_a_head(rt: HostRuntime) {
-        may_be_shared(&head(&rt, rt.alloc()));
     }
 
     #[test]

@@ -2,28 +2,32 @@
 
 ghost use Rattle.std.specs.Prelude.{◌≡◌, IfSome, option_map};
 ghost use Rattle.certificate.specs.Forms.{item_form as form_of_item};
-ghost use Rattle.certificate.specs.HeadReading.{coming_of, formed, end_of};
-ghost use Rattle.certificate.specs.ReaderView.{coming, source_of, faults_of, line_of, ReadsTo, EndsAs, Blames, TakesNone};
+ghost use Rattle.certificate.specs.HeadReading.{answer_error, coming_of, formed, end_of};
+ghost use Rattle.certificate.specs.ReaderView.{coming, source_of, faults_of, line_of, stream_of, stream_over, ReadsTo, EndsAs, TakesNone};
+ghost use Rattle.certificate.specs.AnswerReading.{Read, EndRead};
+ghost use Rattle.certificate.specs.Blames.{Blames};
 
 mod beginning;
-mod buffers;
 mod canonical;
 mod forms;
 mod head;
 mod head_parts;
 mod instance;
 mod lines;
-mod place;
 #[cfg(test)]
 mod tests;
 
-use buffers::{Held, Kept};
-use forms::item_form;
-use lines::{end_input, or_bad};
-use place::Place;
+use line_stream::{LineError, Lines};
+use lines::{read_end, read_item};
 use port_io::Source;
 use siting_definitions::Mark;
 use thiserror::Error;
+
+/// How many bytes of an answer may be read.
+const ANSWER_LIMIT: u32 = 1 << 30;
+
+/// The lines of an answer.
+type AnswerLines = Lines<ANSWER_LIMIT>;
 
 /// A line after the head.
 #[derive(Clone, Copy, Debug, PartialEq, Eq)]
@@ -57,6 +61,19 @@ pub enum AnswerError {
     NoMemory,
 }
 
+impl From<LineError> for AnswerError {
+    ghost from_gives = { λ error e. e ≡ answer_error error };
+
+    fn from(error: LineError) -> AnswerError {
+        match error {
+            LineError::Missing { line } => AnswerError::Form { line },
+            LineError::Surplus { line } => AnswerError::Form { line },
+            LineError::TooLong => AnswerError::TooLong,
+            LineError::Failed => AnswerError::ReadFault,
+        }
+    }
+}
+
 /// The text of an answer, read from a source line by line.
 ///
 /// It reads on only where it holds no whole line, so that what stands before a fault is answered without waiting for
@@ -65,9 +82,7 @@ pub enum AnswerError {
 #[derive(Drop)]
 pub struct AnswerReader<'a, S: Source> {
     source: &'a mut S,
-    held: Held,
-    kept: Kept,
-    place: Place,
+    lines: AnswerLines,
 }
 
 impl<'a, S: Source> AnswerReader<'a, S> {
@@ -79,9 +94,7 @@ impl<'a, S: Source> AnswerReader<'a, S> {
     {
         AnswerReader {
             source,
-            held: Held::new(),
-            kept: Kept::new(),
-            place: Place::new(),
+            lines: Lines::new(),
         }
     }
 
@@ -92,16 +105,19 @@ impl<'a, S: Source> AnswerReader<'a, S> {
             (λ before. ReadsTo (formed form_of_item before) (coming S.left self.new) result) }
         ensures memory { TakesNone result }
         ensures blames { Blames (faults_of S.faults self.old) (faults_of S.faults self.new) result }
+
+        // The bytes that were read settle the answer, and no more of them were read than that took.
+        ensures read { Read (formed form_of_item) (stream_of S.left S.faults self.old)
+            (stream_of S.left S.faults self.new) result }
     {
-        self.next_line()?;
-        or_bad(item_form(self.text()), self.line())
+        read_item(&mut self.lines, self.source)
     }
 
     /// The number of the last line read.
     pub fn line(&self) -> u64
         ensures { result ≡ line_of self.now }
     {
-        self.place.line()
+        self.lines.line()
     }
 
     /// Ends the reading after the last line: `Ok` exactly where the input ends there.
@@ -110,13 +126,12 @@ impl<'a, S: Source> AnswerReader<'a, S> {
             (λ before. EndsAs (end_of before) (S.left self.exit.0.now) result) }
         ensures memory { TakesNone result }
         ensures blames { Blames (faults_of S.faults self.entry) (S.faults self.exit.0.now) result }
+
+        // As in `next`.
+        ensures read { EndRead (stream_of S.left S.faults self.entry)
+            (stream_over S.left S.faults self.entry self.exit.0.now) result }
     {
-        let AnswerReader {
-            source,
-            held,
-            kept: _,
-            place,
-        } = self;
-        end_input(source, &held, &place)
+        let AnswerReader { source, mut lines } = self;
+        read_end(&mut lines, source)
     }
 }

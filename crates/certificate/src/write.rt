@@ -2,14 +2,15 @@
 
 ghost use Rattle.std.specs.Prelude.{◌≡◌, [], ◌∷◌, ◌++◌, map, flat_map, codes};
 ghost use Rattle.std.specs.Fmt.{signed_decimal};
-ghost use Rattle.port_io.specs.Output.{IsOpen, Put, sink_of, stage};
+ghost use Rattle.port_io.specs.Output.{IsOpen, PutOn};
 ghost use Rattle.siting_definitions.specs.Line.{line_text, text_of};
 ghost use Rattle.siting_definitions.specs.AnswerText.{number_line, optional_line, site_line, cost_line, word_field, root_line, mark_line, head_lines, answer_text};
 ghost use Rattle.siting_definitions.specs.InstanceText.{version_field};
-ghost use Rattle.certificate.specs.Inside.{best_of};
-ghost use Rattle.certificate.specs.Written.{node_text, mark_of};
+ghost use Rattle.answer_model.specs.Head.{best_of};
+ghost use Rattle.discard_log.specs.Nodes.{mark_of};
+ghost use Rattle.certificate.specs.Written.{node_text};
 
-use crate::head::Head;
+use answer_model::Head;
 use discard_log::{Mark, Node, NodeList};
 use dyadic_square::Square;
 use instance_text::write_instance;
@@ -24,8 +25,7 @@ pub fn write_answer<K: Sink>(
     out: &mut Out<K>,
 ) -> Result<(), WriteFault>
     requires { IsOpen out.old }
-    ensures same { sink_of out.new ≡ sink_of out.old }
-    ensures put { Put (stage K.room K.taken K.faults out.old) (stage K.room K.taken K.faults out.new)
+    ensures { PutOn K.room K.taken K.faults out.old out.new
         (answer_text (record { head = head.now; marks = map mark_of nodes.now })) result }
 {
     write_first_line(&head.instance, out)?;
@@ -38,8 +38,7 @@ pub fn write_answer<K: Sink>(
 /// Writes the first line, which says the version of the text.
 fn write_first_line<K: Sink>(instance: &Instance, out: &mut Out<K>) -> Result<(), WriteFault>
     requires { IsOpen out.old }
-    ensures same { sink_of out.new ≡ sink_of out.old }
-    ensures put { Put (stage K.room K.taken K.faults out.old) (stage K.room K.taken K.faults out.new)
+    ensures { PutOn K.room K.taken K.faults out.old out.new
         (line_text (codes "siting" ∷ codes "answer" ∷ version_field instance.now ∷ [])) result }
 {
     out.put_pieces(&[
@@ -59,9 +58,7 @@ fn version_bytes(instance: &Instance) -> &'static [u8]
 /// Writes the lines of the head that come after the instance's.
 fn write_head_lines<K: Sink>(head: &Head, out: &mut Out<K>) -> Result<(), WriteFault>
     requires { IsOpen out.old }
-    ensures same { sink_of out.new ≡ sink_of out.old }
-    ensures put { Put (stage K.room K.taken K.faults out.old) (stage K.room K.taken K.faults out.new)
-        (text_of (head_lines head.now)) result }
+    ensures { PutOn K.room K.taken K.faults out.old out.new (text_of (head_lines head.now)) result }
 {
     write_limits(head.gap, head.budget, head.pool, out)?;
     write_best(head.site, head.cost, out)?;
@@ -78,9 +75,11 @@ fn write_limits<K: Sink>(
     out: &mut Out<K>,
 ) -> Result<(), WriteFault>
     requires { IsOpen out.old }
-    ensures same { sink_of out.new ≡ sink_of out.old }
-    ensures put { Put (stage K.room K.taken K.faults out.old) (stage K.room K.taken K.faults out.new)
-        (text_of ((codes "gap" ∷ signed_decimal gap ∷ []) ∷ number_line (codes "budget") budget ∷ number_line (codes "pool") pool ∷ [])) result }
+    ensures { PutOn K.room K.taken K.faults out.old out.new
+        (text_of ((codes "gap" ∷ signed_decimal gap ∷ [])
+        ∷ number_line (codes "budget") budget
+        ∷ number_line (codes "pool") pool
+        ∷ [])) result }
 {
     out.put_pieces(&[
         Piece::Text(b"gap "),
@@ -96,8 +95,7 @@ fn write_limits<K: Sink>(
 /// Writes a site.
 fn write_site<K: Sink>(site: Site, out: &mut Out<K>) -> Result<(), WriteFault>
     requires { IsOpen out.old }
-    ensures same { sink_of out.new ≡ sink_of out.old }
-    ensures put { Put (stage K.room K.taken K.faults out.old) (stage K.room K.taken K.faults out.new)
+    ensures { PutOn K.room K.taken K.faults out.old out.new
         (line_text (codes "site" ∷ signed_decimal site.x ∷ signed_decimal site.y ∷ [])) result }
 {
     out.put_pieces(&[
@@ -112,8 +110,7 @@ fn write_site<K: Sink>(site: Site, out: &mut Out<K>) -> Result<(), WriteFault>
 /// Writes the lower and the upper cost of a site.
 fn write_cost<K: Sink>(lower: i64, upper: i64, out: &mut Out<K>) -> Result<(), WriteFault>
     requires { IsOpen out.old }
-    ensures same { sink_of out.new ≡ sink_of out.old }
-    ensures put { Put (stage K.room K.taken K.faults out.old) (stage K.room K.taken K.faults out.new)
+    ensures { PutOn K.room K.taken K.faults out.old out.new
         (line_text (codes "cost" ∷ signed_decimal lower ∷ signed_decimal upper ∷ [])) result }
 {
     out.put_pieces(&[
@@ -133,8 +130,7 @@ fn write_priced<K: Sink>(
     out: &mut Out<K>,
 ) -> Result<(), WriteFault>
     requires { IsOpen out.old }
-    ensures same { sink_of out.new ≡ sink_of out.old }
-    ensures put { Put (stage K.room K.taken K.faults out.old) (stage K.room K.taken K.faults out.new)
+    ensures { PutOn K.room K.taken K.faults out.old out.new
         (text_of ((codes "site" ∷ signed_decimal site.x ∷ signed_decimal site.y ∷ [])
         ∷ (codes "cost" ∷ signed_decimal lower ∷ signed_decimal upper ∷ [])
         ∷ [])) result }
@@ -150,24 +146,19 @@ fn write_best<K: Sink>(
     out: &mut Out<K>,
 ) -> Result<(), WriteFault>
     requires { IsOpen out.old }
-    ensures same { sink_of out.new ≡ sink_of out.old }
-    ensures put { Put (stage K.room K.taken K.faults out.old) (stage K.room K.taken K.faults out.new)
+    ensures { PutOn K.room K.taken K.faults out.old out.new
         (text_of (site_line (best_of site cost) ∷ cost_line (best_of site cost) ∷ [])) result }
 {
-    let Some(site) = site else {
-        return out.put(b"site none\ncost none\n");
-    };
-    let Some((lower, upper)) = cost else {
-        return out.put(b"site none\ncost none\n");
-    };
-    write_priced(site, lower, upper, out)
+    match (site, cost) {
+        (Some(site), Some((lower, upper))) => write_priced(site, lower, upper, out),
+        _ => out.put(b"site none\ncost none\n"),
+    }
 }
 
 /// Writes the bound.
 fn write_bound<K: Sink>(bound: Option<i64>, out: &mut Out<K>) -> Result<(), WriteFault>
     requires { IsOpen out.old }
-    ensures same { sink_of out.new ≡ sink_of out.old }
-    ensures put { Put (stage K.room K.taken K.faults out.old) (stage K.room K.taken K.faults out.new)
+    ensures { PutOn K.room K.taken K.faults out.old out.new
         (line_text (optional_line (codes "bound") bound)) result }
 {
     match bound {
@@ -197,9 +188,11 @@ fn write_outcome<K: Sink>(
     out: &mut Out<K>,
 ) -> Result<(), WriteFault>
     requires { IsOpen out.old }
-    ensures same { sink_of out.new ≡ sink_of out.old }
-    ensures put { Put (stage K.room K.taken K.faults out.old) (stage K.room K.taken K.faults out.new)
-        (text_of ((codes "answer" ∷ word_field word ∷ []) ∷ number_line (codes "open") open_count ∷ number_line (codes "leases") leases ∷ [])) result }
+    ensures { PutOn K.room K.taken K.faults out.old out.new
+        (text_of ((codes "answer" ∷ word_field word ∷ [])
+        ∷ number_line (codes "open") open_count
+        ∷ number_line (codes "leases") leases
+        ∷ [])) result }
 {
     out.put_pieces(&[
         Piece::Text(b"answer "),
@@ -215,9 +208,7 @@ fn write_outcome<K: Sink>(
 /// Writes the root.
 fn write_root<K: Sink>(root: Square, out: &mut Out<K>) -> Result<(), WriteFault>
     requires { IsOpen out.old }
-    ensures same { sink_of out.new ≡ sink_of out.old }
-    ensures put { Put (stage K.room K.taken K.faults out.old) (stage K.room K.taken K.faults out.new)
-        (line_text (root_line root)) result }
+    ensures { PutOn K.room K.taken K.faults out.old out.new (line_text (root_line root)) result }
 {
     out.put_pieces(&[
         Piece::Text(b"root "),
@@ -233,8 +224,7 @@ fn write_root<K: Sink>(root: Square, out: &mut Out<K>) -> Result<(), WriteFault>
 /// Writes a mark that has a number.
 fn write_bounded<K: Sink>(letter: &[u8], bound: i64, out: &mut Out<K>) -> Result<(), WriteFault>
     requires { IsOpen out.old }
-    ensures same { sink_of out.new ≡ sink_of out.old }
-    ensures put { Put (stage K.room K.taken K.faults out.old) (stage K.room K.taken K.faults out.new)
+    ensures { PutOn K.room K.taken K.faults out.old out.new
         (letter.now ++ 32 ∷ (signed_decimal bound ++ 10 ∷ [])) result }
 {
     out.put_pieces(&[
@@ -248,9 +238,7 @@ fn write_bounded<K: Sink>(letter: &[u8], bound: i64, out: &mut Out<K>) -> Result
 /// Writes a node line.
 fn write_mark<K: Sink>(mark: Mark, out: &mut Out<K>) -> Result<(), WriteFault>
     requires { IsOpen out.old }
-    ensures same { sink_of out.new ≡ sink_of out.old }
-    ensures put { Put (stage K.room K.taken K.faults out.old) (stage K.room K.taken K.faults out.new)
-        (line_text (mark_line mark)) result }
+    ensures { PutOn K.room K.taken K.faults out.old out.new (line_text (mark_line mark)) result }
 {
     match mark {
         Mark::Split(None) => out.put(b"S -\n"),
@@ -265,9 +253,7 @@ fn write_mark<K: Sink>(mark: Mark, out: &mut Out<K>) -> Result<(), WriteFault>
 /// Writes the node lines.
 fn write_marks<K: Sink>(nodes: &[Node], out: &mut Out<K>) -> Result<(), WriteFault>
     requires { IsOpen out.old }
-    ensures same { sink_of out.new ≡ sink_of out.old }
-    ensures put { Put (stage K.room K.taken K.faults out.old) (stage K.room K.taken K.faults out.new)
-        (flat_map node_text nodes.now) result }
+    ensures { PutOn K.room K.taken K.faults out.old out.new (flat_map node_text nodes.now) result }
 {
     for node in nodes {
         write_mark(node.mark, out)?;

@@ -42,6 +42,7 @@ next_edge vs k within =
     subst (λ j. area_to vs k +ℤ cross (vertex vs k) (vertex vs j) ≡ area_to vs (k + 1)) (next_below (length vs) k within)
     (area_more vs k (area_to vs k) _ (omega arith) refl refl)
 
+-- each edge more adds area
 closed-more : (vs : List Place) (k : ℕ) → IsPolygon vs → 1 ≤ k → k + 1 < length vs → (closed vs k) <ℤ (closed vs (k + 1))
 closed-more vs k polygon some within =
     let next = next_below (length vs) k within in

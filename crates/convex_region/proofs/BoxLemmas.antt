@@ -14,7 +14,7 @@ use Rattle.siting_definitions.specs.Integer.{least, greatest}
 use Rattle.siting_definitions.specs.Point.{Place, Point, grid, point_of, side}
 use Rattle.siting_definitions.specs.Polygon.{edges, vertex, next_of, origin, covers}
 use Rattle.siting_definitions.specs.Instance.{IsPolygon}
-use Rattle.siting_definitions.proofs.Integers.{diff, diffs, diff-eq, as_diff, mul_comm_ℤ, mul_le_ℤ, mul_lt_ℤ, le_trans_ℤ, int_le-true}
+use Rattle.siting_definitions.proofs.Integers.{diff, diffs, diff-eq, as_diff, mul_le_ℤ, scale_le_ℤ, mul_lt_ℤ, le_trans_ℤ, int_le-true}
 use Rattle.convex_region.specs.Box.{LiesInBox}
 use Rattle.convex_region.proofs.Boxes.{x_of, y_of}
 use Rattle.convex_region.proofs.Edges.{edge_at, length-edges, beside, next-below}
@@ -113,6 +113,7 @@ pub record Meets (a v b : Place) (p : Point) : Type 0 where
   pub second : (pos 0) ≤ℤ side v b p
   pub left : (pos 0) <ℤ side a v (point_of (grid b))
 
+-- the polygon turns left at a vertex that meets a point of it
 turn_left : (a v b : Place) (p : Point) → Meets a v b p → (pos 0) <ℤ turn (v.x -ℤ a.x) (v.y -ℤ a.y) (b.x -ℤ v.x) (b.y -ℤ v.y)
 turn_left a v b p m =
     let k = turn (v.x -ℤ a.x) (v.y -ℤ a.y) (b.x -ℤ v.x) (b.y -ℤ v.y) in
@@ -122,6 +123,7 @@ turn_left a v b p m =
     above_0 : (k : ℤ) → (pos 0) <ℤ (k *ℤ pos 65536) → (pos 0) <ℤ k
     above_0 k e = omega (arith, ints)
 
+-- a point of the polygon isn't to the right of a vertex that is farthest right among its neighbours
 not_right : (a v b : Place) (p : Point) → Meets a v b p → a.x ≤ℤ v.x → b.x ≤ℤ v.x → p.x ≤ℤ (pos p.q *ℤ v.x)
 not_right a v b p m ha hb =
     let first = subst (λ z. (pos 0) ≤ℤ z) (side_from_end a v p) m.first in
@@ -132,6 +134,7 @@ not_right a v b p m ha hb =
     (turn_left a v b p m) (omega (arith, ints)) (omega (arith, ints)) first second in
     omega (arith, ints, e)
 
+-- nor above one that is highest
 not_above : (a v b : Place) (p : Point) → Meets a v b p → a.y ≤ℤ v.y → b.y ≤ℤ v.y → p.y ≤ℤ (pos p.q *ℤ v.y)
 not_above a v b p m ha hb =
     let first = subst (λ z. (pos 0) ≤ℤ z) (side_from_end a v p) m.first in
@@ -142,6 +145,7 @@ not_above a v b p m ha hb =
     (turn_left a v b p m) (omega (arith, ints)) (omega (arith, ints)) first second in
     omega (arith, ints, e)
 
+-- nor to the left of one that is farthest left
 not_left : (a v b : Place) (p : Point) → Meets a v b p → neg_ℤ a.x ≤ℤ neg_ℤ v.x → neg_ℤ b.x ≤ℤ neg_ℤ v.x → (pos p.q *ℤ v.x) ≤ℤ p.x
 not_left a v b p m ha hb =
     let first = subst (λ z. (pos 0) ≤ℤ z) (side_from_end a v p) m.first in
@@ -152,6 +156,7 @@ not_left a v b p m ha hb =
     (turn_left a v b p m) (omega (arith, ints)) (omega (arith, ints)) first second in
     omega (arith, ints, e)
 
+-- nor below one that is lowest
 not_below : (a v b : Place) (p : Point) → Meets a v b p → neg_ℤ a.y ≤ℤ neg_ℤ v.y → neg_ℤ b.y ≤ℤ neg_ℤ v.y → (pos p.q *ℤ v.y) ≤ℤ p.y
 not_below a v b p m ha hb =
     let first = subst (λ z. (pos 0) ≤ℤ z) (side_from_end a v p) m.first in
@@ -186,6 +191,7 @@ pub record IsFarthest (g : ℕ → ℤ) (k m : ℕ) : Type 0 where
 same_number : (g : ℕ → ℤ) (i j : ℕ) → i ≡ j → (g i) ≤ℤ (g j)
 same_number g i j e = let f : g i ≡ g j = ap g e in omega (arith, ints, f)
 
+-- of finitely many numbers one is the greatest
 farthest : (g : ℕ → ℤ) (k : ℕ) → (m : ℕ) × IsFarthest g k m
 farthest g zero = (0, record { within = omega arith; all = λ j h. same_number g j 0 (omega arith) })
 farthest g (suc k) =
@@ -216,6 +222,7 @@ covers_at vs p i within all =
     let here = All-get_or passes (edges vs) i (origin, origin) (omega (arith, length-edges vs)) (AllPass-from_list_all (beside p) (edges vs) all) in
     int_le-true _ _ (subst passes (edge_at vs i within) here)
 
+-- a vertex of a polygon meets each point that the polygon holds
 meets : (vs : List Place) (p : Point) (m : ℕ) → IsPolygon vs → covers vs p ≡ true → m < length vs → Meets (vertex vs (before (length vs) m)) (vertex vs m) (vertex vs (next_of (length vs) m)) p
 meets vs p m polygon covered within =
     let n = length vs in
@@ -247,9 +254,6 @@ toward h R vs p polygon covered law =
     (m, within, law _ _ _ (meets vs p m polygon covered within) (far.all (before n m) (omega arith)) (far.all (next_of n m) (omega arith)))
 
 -- ---- the ends of a list of numbers
-scaled_le : (q : ℕ) (a b : ℤ) → a ≤ℤ b → (pos q *ℤ a) ≤ℤ (pos q *ℤ b)
-scaled_le q a b h = let e : (a *ℤ pos q) ≤ℤ (b *ℤ pos q) = mul_le_ℤ a b q h in omega (arith, ints, e, mul_comm_ℤ (pos q) a, mul_comm_ℤ (pos q) b)
-
 pub least-at : (h : Place → ℤ) (vs : List Place) (m : ℕ) → m < length vs → (least (map h vs)) ≤ℤ (h (vertex vs m))
 least-at h [] m within = absurd (omega arith)
 least-at h (v ∷ vs) zero within = (fold-int_min_bounds (h v) (map h vs) _ refl).0
@@ -259,6 +263,7 @@ least-at h (v ∷ vs) (suc m) within =
     let at_m = All-get_or (λ z. r ≤ℤ z) (map h vs) m (pos 0) (omega (arith, length-map vs h)) ((fold-int_min_bounds (h v) (map h vs) r refl).1) in
     subst (λ z. r ≤ℤ z) (get_or-map h vs m origin (pos 0) below) at_m
 
+-- no number of a list is above the greatest
 pub greatest-at : (h : Place → ℤ) (vs : List Place) (m : ℕ) → m < length vs → (h (vertex vs m)) ≤ℤ (greatest (map h vs))
 greatest-at h [] m within = absurd (omega arith)
 greatest-at h (v ∷ vs) zero within = (fold-int_max_bounds (h v) (map h vs) _ refl).0
@@ -276,8 +281,8 @@ lies_in_box vs p polygon covered =
     let l = toward (λ v. neg_ℤ v.x) (λ v. (pos p.q *ℤ v.x) ≤ℤ p.x) vs p polygon covered (λ a v b. not_left a v b p) in
     let d = toward (λ v. neg_ℤ v.y) (λ v. (pos p.q *ℤ v.y) ≤ℤ p.y) vs p polygon covered (λ a v b. not_below a v b p) in
     record {
-      left = le_trans_ℤ _ _ _ (scaled_le p.q _ _ (least-at x_of vs l.0 l.1)) l.2;
-      lower = le_trans_ℤ _ _ _ (scaled_le p.q _ _ (least-at y_of vs d.0 d.1)) d.2;
-      right = le_trans_ℤ _ _ _ r.2 (scaled_le p.q _ _ (greatest-at x_of vs r.0 r.1));
-      upper = le_trans_ℤ _ _ _ u.2 (scaled_le p.q _ _ (greatest-at y_of vs u.0 u.1));
+      left = le_trans_ℤ _ _ _ (scale_le_ℤ p.q _ _ (least-at x_of vs l.0 l.1)) l.2;
+      lower = le_trans_ℤ _ _ _ (scale_le_ℤ p.q _ _ (least-at y_of vs d.0 d.1)) d.2;
+      right = le_trans_ℤ _ _ _ r.2 (scale_le_ℤ p.q _ _ (greatest-at x_of vs r.0 r.1));
+      upper = le_trans_ℤ _ _ _ u.2 (scale_le_ℤ p.q _ _ (greatest-at y_of vs u.0 u.1));
     }

@@ -3,3 +3,4 @@ pub mod Boxes
 pub mod BoxLemmas
 pub mod AreaLemmas
 mod TurnLemmas
+pub mod Convexity

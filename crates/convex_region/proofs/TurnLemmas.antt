@@ -107,14 +107,15 @@ first_third t u a b c ua uc ab ac bc =
     (mul_comm_ℤ (area t a c) (area t u b) ∙ four_places t u a b c)
     (area-left t a c ac) (area-left t u a ua) (area-left t b c bc) (area-left t u c uc) (area-left t a b ab))
 
--- ---- one corner more: d comes after m, m after k, and each three corners before d turn to the left
+-- ---- one corner more: d comes after m, m after k, and each three vertices before d turn to the left
 abbrev pub TurnsAt : List Place → ℕ → ℕ → ℕ → Type 0
 TurnsAt vs i j k = IsLeft (vertex vs i) (vertex vs j) (vertex vs k)
 
--- each three of the first n corners, in order, turn to the left
+-- each three of the first n vertices, in order, turn to the left
 abbrev pub AllLeft : List Place → ℕ → Type 0
 AllLeft vs n = (i j k : ℕ) → i < j → j < k → k < n → TurnsAt vs i j k
 
+-- vertex 0, any later one and the new one turn left
 from_first : (vs : List Place) (m d j : ℕ) → m + 1 ≡ d → AllLeft vs d → TurnsAt vs m d 0 → TurnsAt vs d 0 1 → 1 ≤ j → j ≤ m → TurnsAt vs 0 j d
 from_first vs m d j next all last first some within =
     let start : TurnsAt vs 0 1 d = next_turn (vertex vs d) (vertex vs 0) (vertex vs 1) first in
@@ -131,6 +132,7 @@ from_first vs m d j next all last first some within =
     (λ (one : j ≤ 1). subst (λ n. TurnsAt vs 0 n d) (omega arith) start)
     (cases_lt 1 j)
 
+-- any vertex, the last one before the new one, and the new one
 to_last : (vs : List Place) (k m d i : ℕ) → k + 1 ≡ m → m + 1 ≡ d → AllLeft vs d → TurnsAt vs k m d → TurnsAt vs m d 0 → TurnsAt vs d 0 1 → i < m → TurnsAt vs i m d
 to_last vs k m d i before next all turn last first within =
     ⊎_elim
@@ -148,6 +150,7 @@ to_last vs k m d i before next all turn last first within =
     (λ (none : i ≤ 0). subst (λ n. TurnsAt vs n m d) (omega arith) (last_turn (vertex vs m) (vertex vs d) (vertex vs 0) last))
     (cases_lt 0 i)
 
+-- any two in between, and the new one
 between : (vs : List Place) (k m d i j : ℕ) → k + 1 ≡ m → m + 1 ≡ d → AllLeft vs d → TurnsAt vs k m d → TurnsAt vs m d 0 → TurnsAt vs d 0 1 → 0 < i → i < j → j < m → TurnsAt vs i j d
 between vs k m d i j before next all turn last first some less within =
     first_third (vertex vs i) (vertex vs j) (vertex vs m) (vertex vs d) (vertex vs 0)
@@ -157,6 +160,7 @@ between vs k m d i j before next all turn last first some less within =
     (next_turn (vertex vs 0) (vertex vs i) (vertex vs m) (all 0 i m some (omega arith) (omega arith)))
     (next_turn (vertex vs 0) (vertex vs i) (vertex vs d) (from_first vs m d i next all last first some (omega arith)))
 
+-- any two before the new one, and the new one
 to_new : (vs : List Place) (k m d i j : ℕ) → k + 1 ≡ m → m + 1 ≡ d → AllLeft vs d → TurnsAt vs k m d → TurnsAt vs m d 0 → TurnsAt vs d 0 1 → i < j → j ≤ m → TurnsAt vs i j d
 to_new vs k m d i j before next all turn last first less within =
     ⊎_elim
@@ -190,6 +194,7 @@ beside_closing : (vs : List Place) (n i j : ℕ) → length vs ≤ n → AllLeft
 beside_closing vs n i j whole all end within not_start not_end =
     last_turn (vertex vs 0) (vertex vs j) (vertex vs i) (all 0 j i (omega (arith, not_end)) (omega (arith, not_start)) (omega arith))
 
+-- each vertex that is no end of an edge lies to its left
 beside_edge : (vs : List Place) (n i j : ℕ) → length vs ≤ n → AllLeft vs n → i < length vs → j < length vs → j ≢ i → j ≢ next_of (length vs) i → TurnsAt vs i (next_of (length vs) i) j
 beside_edge vs n i j whole all edge within not_start not_end =
     ⊎_elim
@@ -203,6 +208,7 @@ beside_edge vs n i j whole all edge within not_start not_end =
     (beside_closing vs n i j whole all (omega arith) within not_start (subst (λ k. j ≢ k) next not_end)))
     (cases_lt (i + 1) (length vs))
 
+-- so that there is no dent
 pub no_dent : (vs : List Place) (n : ℕ) → length vs ≤ n → AllLeft vs n → (i j : ℕ) → IsDent vs i j → ⊥
 no_dent vs n whole all i j dent =
     let left = beside_edge vs n i j whole all dent.edge dent.within dent.not_start dent.not_end in
@@ -214,6 +220,7 @@ edge_left vs i k j convex next edge within not_start not_end =
     let at : next_of (length vs) i ≡ k = next_below (length vs) i (omega arith) ∙ next in
     subst (λ n. TurnsAt vs i n j) at (convex i j (omega arith) within not_start (subst (λ n. j ≢ n) (sym at) not_end))
 
+-- a list without dents turns left at each vertex
 pub turns_of : (vs : List Place) (i : ℕ) → 2 ≤ i → i < length vs → ((i j : ℕ) → IsDent vs i j → ⊥) → TurnsLeft vs i
 turns_of vs i some within none =
     let convex : IsConvex vs = IsConvex-by_dents vs none in

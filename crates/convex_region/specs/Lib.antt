@@ -1,4 +1,5 @@
-pub mod Inside
+pub mod Polygon
+pub mod Convex
 pub mod Dent
 pub mod Box
 pub mod Turns

@@ -7,7 +7,8 @@ use Rattle.siting_definitions.specs.Polygon.{vertex}
 abbrev pub IsLeft : Place → Place → Place → Type 0
 IsLeft a b c = (pos 0) <ℤ side a b (point_of (grid c))
 
--- the polygon of the corners up to corner i turns left at corner i, at the corner before it and at corner 0
+-- the polygon of the vertices up to vertex i turns left at vertex i, at the vertex before it and at
+-- vertex 0
 pub record TurnsLeft (vs : List Place) (i : ℕ) : Type 0 where
   pub before : IsLeft (vertex vs (i - 2)) (vertex vs (i - 1)) (vertex vs i)
   pub last : IsLeft (vertex vs (i - 1)) (vertex vs i) (vertex vs 0)

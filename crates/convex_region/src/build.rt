@@ -7,11 +7,13 @@ ghost use Rattle.siting_definitions.specs.Polygon as polygons;
 ghost use Rattle.siting_definitions.specs.Polygon.{vertex};
 ghost use Rattle.siting_definitions.specs.Instance.{IsCoordinate, IsPlace};
 ghost use Rattle.siting_definitions.specs.Excluded as excluded;
+ghost use Rattle.siting_definitions.specs.declared.TheConstants.{VERTEX_LIMIT};
 ghost use Rattle.convex_region.specs.Dent.{IsDent, IsFirstDent, Builds};
 
 use crate::polygon::{Polygon, next_of, side_at};
 use crate::turns::is_convex;
 use exact_geometry::{Extent, Place};
+use siting_definitions::VERTEX_LIMIT;
 use std::alloc::{AllocError, Global};
 
 /// Why a list of places is no polygon.
@@ -21,7 +23,7 @@ pub enum PolygonFault {
     TooFewVertices,
     /// More than 64 places.
     TooManyVertices,
-    /// Memory ran out for the corners.
+    /// Memory ran out for the vertices.
     NoMemory,
     /// Vertex `vertex`, which is no end of edge `edge`, doesn't lie strictly to its left: the first such pair, in order
     /// of edge and then vertex, of the list after turning.
@@ -36,60 +38,60 @@ pub enum PolygonFault {
 impl Polygon {
     /// The polygon with these corners, turned to be counter-clockwise: the first corner stays first.
     ///
-    /// `TooFewVertices` exactly for fewer than 3 corners, `TooManyVertices` exactly for more than 64. Of the others `NotConvex`
-    /// only where the turned list isn't convex, and `NoMemory` where memory ran out.
+    /// `TooFewVertices` exactly for fewer than 3 corners, `TooManyVertices` exactly for more than 64. Of the others
+    /// `NotConvex` only where the turned list isn't convex, and `NoMemory` where memory ran out.
     pub fn build(alloc: Global, corners: &[Place]) -> Result<Polygon, PolygonFault>
         ensures { Builds corners.now result }
     {
         if corners.len() < 3 {
             return Err(PolygonFault::TooFewVertices);
         }
-        if corners.len() > 64 {
+        if corners.len() > VERTEX_LIMIT {
             return Err(PolygonFault::TooManyVertices);
         }
-        let Ok(corners) = turned(alloc, corners) else {
+        let Ok(vertices) = turned_list(alloc, corners) else {
             return Err(PolygonFault::NoMemory);
         };
-        if let Some((edge, vertex)) = dent_of(corners.as_slice()) {
+        if let Some((edge, vertex)) = dent_of(vertices.as_slice()) {
             return Err(PolygonFault::NotConvex {
                 edge: edge as u8,
                 vertex: vertex as u8,
             });
         }
-        let bounds = bounds_of(corners.as_slice());
-        Ok(Polygon { corners, bounds })
+        let bounds = box_of(vertices.as_slice());
+        Ok(Polygon { vertices, bounds })
     }
 }
 
-/// The corners counter-clockwise: where their area is negative, all but the first in reverse.
-fn turned(alloc: Global, corners: &[Place]) -> Result<Vec<Place>, AllocError>
-    requires few { 3 ≤ length corners.now }
-    requires many { length corners.now ≤ 64 }
-    ensures { IfOk result (λ v. v.items ≡ polygons.turned corners.now) }
+/// The vertices counter-clockwise: where their area is negative, all but the first in reverse.
+fn turned_list(alloc: Global, vertices: &[Place]) -> Result<Vec<Place>, AllocError>
+    requires few { 3 ≤ length vertices.now }
+    requires many { length vertices.now ≤ VERTEX_LIMIT }
+    ensures { IfOk result (λ v. v.items ≡ polygons.turned vertices.now) }
 {
-    let mut all = Vec::from_slice(alloc, corners)?;
-    if doubled_area(corners) < 0 {
+    let mut all = Vec::from_slice(alloc, vertices)?;
+    if doubled_area(vertices) < 0 {
         reverse_after_first(all.as_mut_slice());
     }
     Ok(all)
 }
 
-/// Reverses all corners but the first.
-fn reverse_after_first(corners: &mut [Place])
-    requires { 1 ≤ length corners.old }
-    ensures { corners.new ≡ take 1 corners.old ++ reverse (drop 1 corners.old) }
+/// Reverses all vertices but the first.
+fn reverse_after_first(vertices: &mut [Place])
+    requires { 1 ≤ length vertices.old }
+    ensures { vertices.new ≡ take 1 vertices.old ++ reverse (drop 1 vertices.old) }
 {
-    corners[1..].reverse();
+    vertices[1..].reverse();
 }
 
 /// Twice the signed area, in square lengths.
-fn doubled_area(corners: &[Place]) -> i64
-    requires { length corners.now ≤ 64 }
-    ensures { result ≡ polygons.doubled_area corners.now }
+fn doubled_area(vertices: &[Place]) -> i64
+    requires { length vertices.now ≤ VERTEX_LIMIT }
+    ensures { result ≡ polygons.doubled_area vertices.now }
 {
     let mut area = 0;
-    for i in 0..corners.len() {
-        area += cross(corners[i], corners[next_of(corners.len(), i)]);
+    for i in 0..vertices.len() {
+        area += cross(vertices[i], vertices[next_of(vertices.len(), i)]);
     }
     area
 }
@@ -113,22 +115,23 @@ fn product(a: i32, b: i32) -> i64
 }
 
 /// Whether vertex `j` is no end of edge `i` and doesn't lie strictly to its left.
-fn is_dent(corners: &[Place], i: usize, j: usize) -> bool
-    requires edge { i < length corners.now }
-    requires vertex { j < length corners.now }
-    ensures { IsTrue result ↔ IsDent corners.now i j }
+fn is_dent(vertices: &[Place], i: usize, j: usize) -> bool
+    requires edge { i < length vertices.now }
+    requires vertex { j < length vertices.now }
+    ensures { IsTrue result ↔ IsDent vertices.now i j }
 {
-    j != i && j != next_of(corners.len(), i) && side_at(corners, i, corners[j].grid()) <= 0
+    j != i && j != next_of(vertices.len(), i) && side_at(vertices, i, vertices[j].grid()) <= 0
 }
 
 /// The first vertex that makes a dent at edge `i`.
-fn dent_at(corners: &[Place], i: usize) -> Option<usize>
-    requires { i < length corners.now }
-    ensures none { IfNone result ((j : ℕ) → ¬ (IsDent corners.now i j)) }
-    ensures some { IfSome result (λ j. IsDent corners.now i j × ((l : ℕ) → l < j → ¬ (IsDent corners.now i l))) }
+fn dent_at(vertices: &[Place], i: usize) -> Option<usize>
+    requires { i < length vertices.now }
+    ensures none { IfNone result ((j : ℕ) → ¬ (IsDent vertices.now i j)) }
+    ensures some { IfSome result (λ j. IsDent vertices.now i j
+        × ((l : ℕ) → l < j → ¬ (IsDent vertices.now i l))) }
 {
-    for j in 0..corners.len() {
-        if is_dent(corners, i, j) {
+    for j in 0..vertices.len() {
+        if is_dent(vertices, i, j) {
             return Some(j);
         }
     }
@@ -136,24 +139,24 @@ fn dent_at(corners: &[Place], i: usize) -> Option<usize>
 }
 
 /// The first dent, as edge and vertex. It is looked for only where one pass doesn't show that there is none.
-fn dent_of(corners: &[Place]) -> Option<(usize, usize)>
-    ensures none { IfNone result ((i j : ℕ) → ¬ (IsDent corners.now i j)) }
-    ensures some { IfSome result (λ d. IsFirstDent corners.now d.0 d.1) }
+fn dent_of(vertices: &[Place]) -> Option<(usize, usize)>
+    ensures none { IfNone result ((i j : ℕ) → ¬ (IsDent vertices.now i j)) }
+    ensures some { IfSome result (λ d. IsFirstDent vertices.now d.0 d.1) }
 {
-    if is_convex(corners) {
+    if is_convex(vertices) {
         None
     } else {
-        first_dent(corners)
+        first_dent(vertices)
     }
 }
 
 /// The first dent, as edge and vertex.
-fn first_dent(corners: &[Place]) -> Option<(usize, usize)>
-    ensures none { IfNone result ((i j : ℕ) → ¬ (IsDent corners.now i j)) }
-    ensures some { IfSome result (λ d. IsFirstDent corners.now d.0 d.1) }
+fn first_dent(vertices: &[Place]) -> Option<(usize, usize)>
+    ensures none { IfNone result ((i j : ℕ) → ¬ (IsDent vertices.now i j)) }
+    ensures some { IfSome result (λ d. IsFirstDent vertices.now d.0 d.1) }
 {
-    for i in 0..corners.len() {
-        if let Some(j) = dent_at(corners, i) {
+    for i in 0..vertices.len() {
+        if let Some(j) = dent_at(vertices, i) {
             return Some((i, j));
         }
     }
@@ -161,15 +164,15 @@ fn first_dent(corners: &[Place]) -> Option<(usize, usize)>
 }
 
 /// The bounding box, in grid units.
-fn bounds_of(corners: &[Place]) -> Extent
-    requires { 0 < length corners.now }
-    ensures value { result ≡ excluded.bounds_of corners.now }
-    ensures places { All IsPlace corners.now }
+fn box_of(vertices: &[Place]) -> Extent
+    requires { 0 < length vertices.now }
+    ensures value { result ≡ excluded.box_of vertices.now }
+    ensures places { All IsPlace vertices.now }
 {
-    let first = corners[0];
+    let first = vertices[0];
     let (mut x0, mut y0) = (first.x, first.y);
     let (mut x1, mut y1) = (first.x, first.y);
-    for v in &corners[1..] {
+    for v in &vertices[1..] {
         let v = *v;
         x0 = x0.min(v.x);
         y0 = y0.min(v.y);

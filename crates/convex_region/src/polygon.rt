@@ -6,7 +6,7 @@ ghost use Rattle.siting_definitions.specs.Point as points;
 ghost use Rattle.siting_definitions.specs.Polygon as polygons;
 ghost use Rattle.siting_definitions.specs.Polygon.{vertex};
 ghost use Rattle.siting_definitions.specs.Instance.{IsPolygon};
-ghost use Rattle.siting_definitions.specs.Excluded.{bounds_of};
+ghost use Rattle.siting_definitions.specs.Excluded.{box_of};
 
 use exact_geometry::{Extent, Place, Pt, side};
 use std::alloc::AllocError;
@@ -15,20 +15,20 @@ use std::marker::Model;
 /// A convex polygon: 3 to 64 places, counter-clockwise, each strictly to the left of each edge that it isn't an end of.
 #[derive(Debug, Drop)]
 pub struct Polygon {
-    pub(crate) corners: Vec<Place>,
+    pub(crate) vertices: Vec<Place>,
     pub(crate) bounds: Extent,
 }
 
 impl Model for Polygon {
     ghost use Rattle.std.specs.Prelude.{List};
     ghost use Rattle.siting_definitions.specs.Point as points;
-    ghost use Rattle.convex_region.specs.Inside.{Fits};
+    ghost use Rattle.convex_region.specs.Polygon.{PolygonFits};
 
     ghost Value = { List points.Place };
 
-    ghost view = { λ a. a.corners.items };
+    ghost view = { λ a. a.vertices.items };
 
-    ghost invariant = { λ a. Fits a.corners.items a.bounds };
+    ghost invariant = { λ a. PolygonFits a.vertices.items a.bounds };
 }
 
 /// A copy is the same polygon. It takes memory, so it may fail.
@@ -36,9 +36,9 @@ impl Clone for Polygon {
     ghost is_clone = { λ polygon copy. copy ≡ polygon };
 
     fn clone(&self) -> Result<Polygon, AllocError> {
-        let corners = self.corners.clone()?;
+        let vertices = self.vertices.clone()?;
         Ok(Polygon {
-            corners,
+            vertices,
             bounds: self.bounds,
         })
     }
@@ -50,7 +50,7 @@ impl Polygon {
         ensures value { result ≡ length self.now }
         ensures polygon { IsPolygon self.now }
     {
-        self.corners.len()
+        self.vertices.len()
     }
 
     /// Vertex `i`, in the order of the polygon as it stands, counter-clockwise.
@@ -58,7 +58,7 @@ impl Polygon {
         requires { i < length self.now }
         ensures { result ≡ vertex self.now i }
     {
-        self.corners[i]
+        self.vertices[i]
     }
 
     /// The ends of edge `i`: vertex `i`, and the vertex after it. The last edge ends at vertex 0.
@@ -67,13 +67,13 @@ impl Polygon {
         ensures start { result.0 ≡ vertex self.now i }
         ensures end { result.1 ≡ vertex self.now (polygons.next_of (length self.now) i) }
     {
-        let next = next_of(self.corners.len(), i);
-        (self.corners[i], self.corners[next])
+        let next = next_of(self.vertices.len(), i);
+        (self.vertices[i], self.vertices[next])
     }
 
     /// The bounding box, in grid units.
     pub fn bounds(&self) -> Extent
-        ensures value { result ≡ bounds_of self.now }
+        ensures value { result ≡ box_of self.now }
         ensures polygon { IsPolygon self.now }
     {
         self.bounds
@@ -83,9 +83,9 @@ impl Polygon {
     pub fn covers(&self, p: Pt) -> bool
         ensures { result ≡ polygons.covers self.now (point_of p) }
     {
-        let corners = self.corners.as_slice();
-        for i in 0..corners.len() {
-            if side_at(corners, i, p) < 0 {
+        let vertices = self.vertices.as_slice();
+        for i in 0..vertices.len() {
+            if side_at(vertices, i, p) < 0 {
                 return false;
             }
         }
@@ -96,9 +96,9 @@ impl Polygon {
     pub fn covers_inside(&self, p: Pt) -> bool
         ensures { result ≡ polygons.covers_inside self.now (point_of p) }
     {
-        let corners = self.corners.as_slice();
-        for i in 0..corners.len() {
-            if side_at(corners, i, p) <= 0 {
+        let vertices = self.vertices.as_slice();
+        for i in 0..vertices.len() {
+            if side_at(vertices, i, p) <= 0 {
                 return false;
             }
         }
@@ -116,9 +116,10 @@ pub(crate) fn next_of(count: usize, i: usize) -> usize
 }
 
 /// The side of `p` on edge `i`.
-pub(crate) fn side_at(corners: &[Place], i: usize, p: Pt) -> i128
-    requires { i < length corners.now }
-    ensures { result ≡ points.side (vertex corners.now i) (vertex corners.now (polygons.next_of (length corners.now) i)) (point_of p) }
+pub(crate) fn side_at(vertices: &[Place], i: usize, p: Pt) -> i128
+    requires { i < length vertices.now }
+    ensures { result ≡ points.side (vertex vertices.now i)
+        (vertex vertices.now (polygons.next_of (length vertices.now) i)) (point_of p) }
 {
-    side(corners[i], corners[next_of(corners.len(), i)], p)
+    side(vertices[i], vertices[next_of(vertices.len(), i)], p)
 }

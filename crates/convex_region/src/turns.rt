@@ -1,4 +1,4 @@
-//! Whether a list of corners is convex, in one pass over them.
+//! Whether a list of vertices is convex, in one pass over them.
 
 ghost use Rattle.std.specs.Prelude.{◌<◌, ◌≤◌, ◌↔◌, ℕ, IsTrue, length};
 ghost use Rattle.convex_region.specs.Dent.{IsDent};
@@ -6,26 +6,26 @@ ghost use Rattle.convex_region.specs.Turns.{IsLeft, TurnsLeft};
 
 use exact_geometry::{Place, side};
 
-/// Whether the list has no dent: each corner in turn leaves the polygon of the corners up to it convex.
-pub(crate) fn is_convex(corners: &[Place]) -> bool
-    ensures { IsTrue result ↔ ((i j : ℕ) → ¬ (IsDent corners.now i j)) }
+/// Whether the list has no dent: each vertex in turn leaves the polygon of the vertices up to it convex.
+pub(crate) fn is_convex(vertices: &[Place]) -> bool
+    ensures { IsTrue result ↔ ((i j : ℕ) → ¬ (IsDent vertices.now i j)) }
 {
-    for i in 2..corners.len() {
-        if !turns_left(corners, i) {
+    for i in 2..vertices.len() {
+        if !turns_left(vertices, i) {
             return false;
         }
     }
     true
 }
 
-/// Whether the polygon of the corners up to corner `i` turns left at corner `i` and at the corners beside it.
-fn turns_left(corners: &[Place], i: usize) -> bool
+/// Whether the polygon of the vertices up to vertex `i` turns left at vertex `i` and at the vertices beside it.
+fn turns_left(vertices: &[Place], i: usize) -> bool
     requires some { 2 ≤ i }
-    requires within { i < length corners.now }
-    ensures { IsTrue result ↔ TurnsLeft corners.now i }
+    requires within { i < length vertices.now }
+    ensures { IsTrue result ↔ TurnsLeft vertices.now i }
 {
-    let (first, second) = (corners[0], corners[1]);
-    let (before, previous, last) = (corners[i - 2], corners[i - 1], corners[i]);
+    let (first, second) = (vertices[0], vertices[1]);
+    let (before, previous, last) = (vertices[i - 2], vertices[i - 1], vertices[i]);
     is_left(before, previous, last)
         && is_left(previous, last, first)
         && is_left(last, first, second)

@@ -1,4 +1,5 @@
--- What contracts see of a log: its nodes in the order in which they came, and for how many more there is room.
+-- What contracts see of a log: its nodes in the order in which they came, and for how many more
+-- there is room.
 use Rattle.std.specs.Prelude.{ℕ, List}
 use Rattle.discard_log.specs.declared.node.Node.{Node}
 

@@ -9,8 +9,11 @@ use Rattle.discard_log.specs.declared.node.Node.{Node}
 abbrev pub tree_square : Node → TreeSquare
 tree_square n = record { square = n.square; is_split = is_split n.mark }
 
--- the nodes with this mark at place i
-abbrev pub remarked : List Node → ℕ → Mark → List Node
-remarked [] i mark = []
-remarked (n ∷ ns) zero mark = record n { mark = mark } ∷ ns
-remarked (n ∷ ns) (suc i) mark = n ∷ remarked ns i mark
+abbrev pub mark_of : Node → Mark
+mark_of n = n.mark
+
+-- the nodes with this mark at index i
+abbrev pub with_mark : List Node → ℕ → Mark → List Node
+with_mark [] i mark = []
+with_mark (n ∷ ns) zero mark = record n { mark = mark } ∷ ns
+with_mark (n ∷ ns) (suc i) mark = n ∷ with_mark ns i mark

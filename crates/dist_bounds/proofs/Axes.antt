@@ -60,16 +60,19 @@ start-passed low side len h = omega (arith, ints)
 pub end-passed : (low side : ℤ) (len : ℕ) → IsSpan low side len → end_passed low side ≡ low +ℤ pos len
 end-passed low side len h = omega (arith, ints)
 
+-- the end of a span within the limits is small
 pub end-small : (low side : ℤ) (len : ℕ) → IsSpan low side len → unsigned_abs (end_passed low side) ≤ 2 ^ 38
 end-small low side len h = omega (arith, ints)
 
 place-passed : (a : ℤ) → unsigned_abs a ≤ 65536000000 → passed a ≡ a
 place-passed a h = omega (arith, ints)
 
+-- how far a lies outside of a span
 pub near-passed : (low side a : ℤ) (len u : ℕ) → IsSpan low side len → unsigned_abs a ≤ 65536000000 → u ≡ unsigned_abs (int_max (pos 0) (int_max (passed low -ℤ passed a) (passed a -ℤ end_passed low side))) → u ≡ unsigned_abs (near_on low len a)
 near-passed low side a len u span small e =
     e ∙ rw (end-passed low side len span, start-passed low side len span, place-passed a small)
 
+-- how far it lies from the farther end
 pub far-passed : (low side a : ℤ) (len u : ℕ) → IsSpan low side len → unsigned_abs a ≤ 65536000000 → u ≡ max (unsigned_abs (passed low -ℤ passed a)) (unsigned_abs (end_passed low side -ℤ passed a)) → u ≡ far_on low len a
 far-passed low side a len u span small e =
     e ∙ rw (end-passed low side len span, start-passed low side len span, place-passed a small)
@@ -79,6 +82,7 @@ pub near2-from : (s : Square) (a : Place) (ax ay : ℤ) (u v r : ℕ) → ax ≡
 unfolding near2
 near2-from s a ax ay u v r ex ey eu ev e = cc
 
+-- and the greatest squared distance
 pub far2-from : (s : Square) (a : Place) (ax ay : ℤ) (u v r : ℕ) → ax ≡ pos 65536 *ℤ a.x → ay ≡ pos 65536 *ℤ a.y → u ≡ far_on s.x (2 ^ s.level) ax → v ≡ far_on s.y (2 ^ s.level) ay → r ≡ u * u + v * v → r ≡ far2 s a
 unfolding far2
 far2-from s a ax ay u v r ex ey eu ev e = cc
@@ -87,6 +91,7 @@ far2-from s a ax ay u v r ex ey eu ev e = cc
 pub distance_passed : (z a : ℤ) (u : ℕ) → unsigned_abs z ≤ 2 ^ 38 → unsigned_abs a ≤ 65536000000 → u ≡ unsigned_abs (passed z -ℤ passed a) → u ≡ unsigned_abs (z -ℤ a)
 distance_passed z a u h k e = e ∙ omega (arith, ints)
 
+-- the squared distance, by both ways
 pub distance2-from : (z : Pt) (a : Place) (ax ay : ℤ) (u v r : ℕ) → ax ≡ pos 65536 *ℤ a.x → ay ≡ pos 65536 *ℤ a.y → u ≡ unsigned_abs (z.x -ℤ ax) → v ≡ unsigned_abs (z.y -ℤ ay) → r ≡ u * u + v * v → r ≡ distance2 a (point_of z)
 unfolding distance2
 distance2-from z a ax ay u v r ex ey eu ev e = cc

@@ -10,15 +10,10 @@ use Rattle.siting_definitions.specs.Point.{Place, Point}
 use Rattle.siting_definitions.specs.Cost.{distance2}
 use Rattle.siting_definitions.specs.Square.{Square, holds_closed, spans_closed}
 use Rattle.siting_definitions.specs.Bounds.{near_on, far_on, near2, far2}
-use Rattle.siting_definitions.proofs.Integers.{mul_minus_ℤ, mul_le_ℤ, mul_comm_ℤ, mul_assoc_ℤ, square_le, int_le-true}
+use Rattle.siting_definitions.proofs.Integers.{mul_minus_ℤ, mul_le_ℤ, mul_comm_ℤ, mul_assoc_ℤ, square_le, size_of_nonneg, le_size}
+use Rattle.dyadic_square.proofs.Spans.{at_least_low, at_most_high}
 
 -- ---- the size of a number
-size_of_nonneg : (z : ℤ) → pos 0 ≤ℤ z → pos (unsigned_abs z) ≡ z
-size_of_nonneg z h = same_in _ _ (omega (arith, ints))
-
-le_size : (n : ℕ) (z : ℤ) → pos n ≤ℤ z → n ≤ unsigned_abs z
-le_size n z h = omega (arith, ints)
-
 le_size_neg : (n : ℕ) (z : ℤ) → pos n ≤ℤ neg_ℤ z → n ≤ unsigned_abs z
 le_size_neg n z h = omega (arith, ints)
 
@@ -88,13 +83,6 @@ in_grid_units v a q =
     rw (e, ← mul_minus_ℤ (pos 65536) v (pos q *ℤ a)) (unsigned_abs-mul (pos 65536) (v -ℤ pos q *ℤ a))
 
 -- ---- both axes
--- what the closed interval says of a coordinate that it holds
-at_least_low : (low : ℤ) (len q : ℕ) (v : ℤ) → spans_closed low len q v ≡ true → (pos q *ℤ low) ≤ℤ (pos 65536 *ℤ v)
-at_least_low low len q v h = int_le-true _ _ (and_parts _ _ h).0
-
-at_most_high : (low : ℤ) (len q : ℕ) (v : ℤ) → spans_closed low len q v ≡ true → (pos 65536 *ℤ v) ≤ℤ (pos q *ℤ (low +ℤ pos len))
-at_most_high low len q v h = int_le-true _ _ (and_parts _ _ h).1
-
 near_on-axis : (low : ℤ) (len q : ℕ) (v a : ℤ) → spans_closed low len q v ≡ true → q * unsigned_abs (near_on low len (pos 65536 *ℤ a)) ≤ 65536 * unsigned_abs (v -ℤ pos q *ℤ a)
 near_on-axis low len q v a h =
     rw (← in_grid_units v a q)
@@ -117,12 +105,14 @@ far_squares q m n x y h k =
     let f : (65536 * y) * (65536 * y) ≤ (q * n) * (q * n) = square_le _ _ k in
     omega (arith, e, f)
 
+-- no point of the closed square is nearer
 pub near2-below : (s : Square) (a : Place) (p : Point) → holds_closed s p ≡ true → near2 s a * (p.q * p.q) ≤ 2 ^ 32 * distance2 a p
 unfolding holds_closed near2 distance2
 near2-below s a p h =
     near_squares p.q _ _ _ _ (near_on-axis s.x (2 ^ s.level) p.q p.x a.x (and_parts _ _ h).0)
     (near_on-axis s.y (2 ^ s.level) p.q p.y a.y (and_parts _ _ h).1)
 
+-- and none is farther
 pub far2-above : (s : Square) (a : Place) (p : Point) → holds_closed s p ≡ true → 2 ^ 32 * distance2 a p ≤ far2 s a * (p.q * p.q)
 unfolding holds_closed far2 distance2
 far2-above s a p h =

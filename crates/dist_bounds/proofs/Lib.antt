@@ -1,2 +1,2 @@
 pub mod DistanceLemmas
-pub mod Axes
+mod Axes

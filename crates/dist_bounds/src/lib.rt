@@ -12,13 +12,17 @@ ghost use Rattle.siting_definitions.specs.Square.{holds_closed};
 ghost use Rattle.siting_definitions.specs.Bounds as bounds;
 ghost use Rattle.dist_bounds.specs.Limits.{IsWithinSquares, longest, longest_way};
 
+#[cfg(test)]
+mod tests;
+
 use dyadic_square::Square;
 use exact_geometry::{Place, Pt};
 
 /// The least squared distance from `a` to the closed square, in grid units squared.
 pub fn near2(sq: Square, a: Place) -> u128
     ensures value { result ≡ bounds.near2 sq a }
-    ensures encloses { (p : Point) → holds_closed sq p ≡ true → result * (p.q * p.q) ≤ 2 ^ 32 * distance2 a p }
+    ensures encloses { (p : Point) → holds_closed sq p ≡ true
+        → result * (p.q * p.q) ≤ 2 ^ 32 * distance2 a p }
     ensures size { result ≤ longest * longest }
 {
     let side = sq.side_len();
@@ -31,7 +35,8 @@ pub fn near2(sq: Square, a: Place) -> u128
 /// The greatest squared distance from `a` to the closed square, in grid units squared.
 pub fn far2(sq: Square, a: Place) -> u128
     ensures value { result ≡ bounds.far2 sq a }
-    ensures encloses { (p : Point) → holds_closed sq p ≡ true → 2 ^ 32 * distance2 a p ≤ result * (p.q * p.q) }
+    ensures encloses { (p : Point) → holds_closed sq p ≡ true
+        → 2 ^ 32 * distance2 a p ≤ result * (p.q * p.q) }
     ensures size { result ≤ longest * longest }
 {
     let side = sq.side_len();
@@ -106,52 +111,4 @@ fn sum_of_squares(a: u64, b: u64) -> u128
     ensures size { result ≤ longest * longest }
 {
     a as u128 * a as u128 + b as u128 * b as u128
-}
-
-#[cfg(test)]
-mod tests {
-    use super::*;
-
-    #[test]
-    fn distances_to_squares(rt: HostRuntime) {
-        let unit = Square::of(0, 0, 16);
-        let table = [
-            // Inside, on a corner, beside, and beyond a corner: lengths are 65536 grid units.
-            (
-                Square::of(0, 0, 19),
-                Place::of(5, 5),
-                0,
-                2 * 327680 * 327680,
-            ),
-            (unit, Place::of(0, 0), 0, 2 * 65536 * 65536),
-            (
-                unit,
-                Place::of(3, 0),
-                131072 * 131072,
-                196608 * 196608 + 65536 * 65536,
-            ),
-            (
-                unit,
-                Place::of(-1, -2),
-                5 * 65536 * 65536,
-                13 * 65536 * 65536,
-            ),
-            (Square::of(-7, 9, 0), Place::of(0, 0), 36 + 81, 49 + 100),
-            (
-                Square::of(-65536000000, -65536000000, 37),
-                Place::of(-1000000, -1000000),
-                0,
-                37778931862957161709568,
-            ),
-        ];
-        for (square, place, near, far) in table {
-            assert_eq!(rt; near2(square, place), near, "{place:?} to {square:?}");
-            assert_eq!(rt; far2(square, place), far, "{place:?} to {square:?}");
-        }
-        assert_eq!(rt; distance2(Pt::of(3, -4), Place::of(0, 0)), 25);
-        assert_eq!(rt;
-            distance2(Pt::of(274877906944, 0), Place::of(-1000000, 0)),
-            115881628040878291419136
-        );
-    }
 }

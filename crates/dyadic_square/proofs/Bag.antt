@@ -5,6 +5,7 @@ use Rattle.std.specs.List.Sorted.{IsPermutation, IsNonDecreasingBy, IsStrictlyIn
 use Rattle.std.proofs.lemmas.List.Sums.{sum_by-cons}
 use Rattle.std.proofs.lemmas.List.Sorted.{IsPermutation-refl, IsPermutation-sym, IsPermutation-cons, IsPermutation-trans, IsPermutation-remove, sum_by-IsPermutation}
 
+-- the sum of a number of each element
 abbrev pub total : {X : Type 0} → (X → ℕ) → List X → ℕ
 total f [] = 0
 total f (x ∷ xs) = f x + total f xs
@@ -21,24 +22,30 @@ pub sum_by-total : {X : Type 0} (f : X → ℕ) → (xs : List X) → sum_by f x
 sum_by-total f [] = refl
 sum_by-total f (x ∷ xs) = sum_by-cons f x xs ∙ ap (λ n. f x + n) (sum_by-total f xs)
 
+-- to count is to add 1 for each element that passes
 pub count_by-total : {X : Type 0} (p : X → Bool) (xs : List X) → count_by p xs ≡ total (λ x. once (p x)) xs
 count_by-total p xs = sum_by-total (λ x. once (p x)) xs
 
+-- the total of two lists, one after the other
 pub total-append : {X : Type 0} (f : X → ℕ) → (xs ys : List X) → total f (xs ++ ys) ≡ total f xs + total f ys
 total-append f [] ys = omega arith
 total-append f (x ∷ xs) ys = omega (arith, total-append f xs ys)
 
+-- the total of ones is the length
 pub total-length : {X : Type 0} → (xs : List X) → total (λ _. 1) xs ≡ length xs
 total-length [] = refl
 total-length (x ∷ xs) = omega (arith, total-length xs)
 
+-- a permutation has the same total
 pub total-permutation : {X : Type 0} (f : X → ℕ) (xs ys : List X) → IsPermutation xs ys → total f ys ≡ total f xs
 total-permutation f xs ys p =
     sym (sum_by-total f ys) ∙ sum_by-IsPermutation f xs ys p ∙ sum_by-total f xs
 
+-- and so the same totals of all numbers
 pub totals_from_permutation : {X : Type 0} (xs ys : List X) → IsPermutation xs ys → SameTotals xs ys
 totals_from_permutation xs ys p f = sym (total-permutation f xs ys p)
 
+-- lists with the same totals are equally long
 pub length-SameTotals : {X : Type 0} (xs ys : List X) → SameTotals xs ys → length xs ≡ length ys
 length-SameTotals xs ys s = sym (total-length xs) ∙ s (λ _. 1) ∙ total-length ys
 
@@ -58,6 +65,7 @@ found {X} p (x ∷ xs) h = found_by p x xs (p x) refl (found p xs) h
         let r = later (omega arith) in
         (suc r.0, omega (arith, r.1), r.2)
 
+-- where equality can be tested, the other list has the first element
 pub contains_from_totals : {X : Type 0} (same : X → X → Bool) (decides : (a b : X) → Decides (same a b) (a ≡ b)) → (x : X) (xs ys : List X) → SameTotals (x ∷ xs) ys → Contains ys x
 contains_from_totals same decides x xs ys s =
     let yes : once (same x x) ≡ 1 = ap once ((decides x x).1 refl) in
@@ -65,6 +73,7 @@ contains_from_totals same decides x xs ys s =
     let at = found (same x) ys (omega arith) in
     (at.0, at.1, sym ((decides x (get_or ys at.0 x)).0 (at.2 x)))
 
+-- so that lists with the same totals are permutations
 pub permutation_from_totals : {X : Type 0} (same : X → X → Bool) (decides : (a b : X) → Decides (same a b) (a ≡ b)) → (xs ys : List X) → SameTotals xs ys → IsPermutation xs ys
 permutation_from_totals same decides [] [] s = IsPermutation-refl []
 permutation_from_totals same decides [] (y ∷ ys) s = absurd (omega (arith, length-SameTotals [] (y ∷ ys) s))
@@ -81,11 +90,13 @@ abbrev pub Rising : {X : Type 0} → (X → ℕ) → ℕ → List X → ℕ → 
 Rising n low [] high = low ≤ high
 Rising n low (x ∷ xs) high = (low ≤ n x) × Rising n (n x + 1) xs high
 
+-- a list that rises between two bounds rises between wider ones
 pub Rising-within : {X : Type 0} (n : X → ℕ) → (xs : List X) (low high low' high' : ℕ) → low' ≤ low → high ≤ high' → Rising n low xs high → Rising n low' xs high'
 Rising-within n [] low high low' high' l h r = omega arith
 Rising-within n (x ∷ xs) low high low' high' l h r =
     (omega (arith, r.0), Rising-within n xs (n x + 1) high (n x + 1) high' (omega arith) h r.1)
 
+-- two lists that rise one after the other make one
 pub Rising-append : {X : Type 0} (n : X → ℕ) → (xs ys : List X) (low mid high : ℕ) → Rising n low xs mid → Rising n mid ys high → Rising n low (xs ++ ys) high
 Rising-append n [] ys low mid high l r = Rising-within n ys mid high low high l (omega arith) r
 Rising-append n (x ∷ xs) ys low mid high l r = (l.0, Rising-append n xs ys (n x + 1) mid high l.1 r)
@@ -103,6 +114,7 @@ Rising-step n (x ∷ []) low high r k h = absurd (omega arith)
 Rising-step n (x ∷ y ∷ xs) low high r zero h = omega (arith, r.1.0)
 Rising-step n (x ∷ y ∷ xs) low high r (suc k) h = Rising-step n (y ∷ xs) (n x + 1) high r.1 k (omega arith)
 
+-- the numbers of a list that rises are strictly increasing
 pub increasing_from_Rising : {X : Type 0} (n : X → ℕ) (xs : List X) (low high : ℕ) → Rising n low xs high → IsStrictlyIncreasing (map n xs)
 increasing_from_Rising n xs low high r k h = rw (add-one k) (Rising-step n xs low high r k (omega arith))
 

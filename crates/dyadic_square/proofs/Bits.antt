@@ -58,6 +58,7 @@ abbrev pub spreads_from : ℕ → List ℕ → Bool
 spreads_from k [] = true
 spreads_from k (v ∷ vs) = (v == spread 8 k) && spreads_from (suc k) vs
 
+-- a table that was tested has the spread of each place
 pub spread_at : (vs : List ℕ) (k i : ℕ) → spreads_from k vs ≡ true → i < length vs → get_or vs i 0 ≡ spread 8 (k + i)
 spread_at [] k i s h = absurd (omega arith)
 spread_at (v ∷ vs) k zero s h =
@@ -76,5 +77,6 @@ spread-low n a =
     let nothing : 4 ^ n * spread 0 (a / 2 ^ n) ≡ 4 ^ n * 0 = ap (λ v. 4 ^ n * v) none in
     omega (arith, parts, nothing)
 
+-- and one of 256 that of each byte
 pub spread_of_byte : (vs : List ℕ) (b : ℕ) → spreads_from 0 vs ≡ true → length vs ≡ 256 → b < 256 → get_or vs b 0 ≡ spread 8 b
 spread_of_byte vs b s e h = let from : 0 + b ≡ b = omega arith in rw from at (spread_at vs 0 b s (omega arith))

@@ -1,11 +1,12 @@
 pub mod Numbers
 pub mod Bag
 pub mod Tiling
+pub mod Spans
 pub mod Within
 pub mod Trees
-pub mod Bits
-pub mod Moved
-pub mod Held
-pub mod Keys
+mod Bits
+mod Moved
+mod Held
+mod Keys
 pub mod Order
 pub mod Walks

@@ -10,6 +10,7 @@ use Rattle.dyadic_square.proofs.Within.{far_small}
 abbrev pub moved : ℤ → ℤ → ℤ
 moved z a = to_z w64 (of_z w64 (to_z w64 (of_z w64 z) +ℤ to_z w64 (of_z w64 a)))
 
+-- a border moved by a part of the side, as the code makes it
 pub moved_is : (z a : ℤ) (n len : ℕ) → a ≡ pos n → n ≤ len → pos 0 ≤ℤ (z +ℤ pos (2 ^ 38)) → (z +ℤ pos len) ≤ℤ pos (2 ^ 38) → moved z a ≡ z +ℤ pos n
 moved_is z a n len e small low high = omega (arith, ints)
 
@@ -25,12 +26,14 @@ square_at x x' y y' level ex ey =
     let upwards : ℤ → Square = λ z. record { x = x'; y = z; level = level } in
     ap across ex ∙ ap upwards ey
 
+-- corner i of a square, by the ways that the code adds
 pub corner_from : (s : Square) (i : ℕ) (a b : ℤ) → IsSquare s → a ≡ pos (far_by (is_right i) (2 ^ s.level)) → b ≡ pos (far_by (is_upper i) (2 ^ s.level)) → let made : Pt = record { x = moved s.x a; y = moved s.y b } in made ≡ corner_of s i
 corner_from s i a b limits ea eb =
     pt_is _ _ _ _
     (moved_is s.x a (far_by (is_right i) (2 ^ s.level)) (2 ^ s.level) ea (far_small (is_right i) (2 ^ s.level)) limits.left limits.right)
     (moved_is s.y b (far_by (is_upper i) (2 ^ s.level)) (2 ^ s.level) eb (far_small (is_upper i) (2 ^ s.level)) limits.lower limits.upper)
 
+-- quarter i
 pub quarter_from : (s : Square) (i : ℕ) (a b : ℤ) → 0 < s.level → IsSquare s → a ≡ pos (far_by (is_right i) (2 ^ (s.level - 1))) → b ≡ pos (far_by (is_upper i) (2 ^ (s.level - 1))) → let made : Square = record { x = moved s.x a; y = moved s.y b; level = s.level - 1 } in made ≡ quarter_of s i
 quarter_from s i a b above limits ea eb =
     let half = 2 ^ (s.level - 1) in
@@ -39,6 +42,7 @@ quarter_from s i a b above limits ea eb =
     (moved_is s.x a (far_by (is_right i) half) (2 ^ s.level) ea (omega (arith, twice, far_small (is_right i) half)) limits.left limits.right)
     (moved_is s.y b (far_by (is_upper i) half) (2 ^ s.level) eb (omega (arith, twice, far_small (is_upper i) half)) limits.lower limits.upper)
 
+-- the centre
 pub centre_from : (s : Square) (a : ℤ) → 0 < s.level → IsSquare s → a ≡ pos (2 ^ (s.level - 1)) → let made : Pt = record { x = moved s.x a; y = moved s.y a } in made ≡ centre_of s
 centre_from s a above limits e =
     let twice = two_halves s.level above in

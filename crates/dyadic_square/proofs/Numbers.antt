@@ -4,12 +4,15 @@ use Rattle.std.proofs.Math.Nat.{pow-suc, pow-le-pow_right}
 use Rattle.std.proofs.lemmas.Int.{ints}
 use borrow.Author.Differences.{same_in, sum_is_lem, product_is}
 
+-- sums of an integer and naturals
 pub plus_zero : (z : ℤ) → z +ℤ pos 0 ≡ z
 plus_zero z = omega (arith, ints)
 
+-- one after the other
 pub plus_plus : (z : ℤ) (m n : ℕ) → (z +ℤ pos m) +ℤ pos n ≡ z +ℤ pos (m + n)
 plus_plus z m n = omega (arith, ints)
 
+-- and a multiple of one
 pub times_plus : (q : ℕ) (z : ℤ) (n : ℕ) → pos q *ℤ (z +ℤ pos n) ≡ pos q *ℤ z +ℤ pos (q * n)
 times_plus q z n =
     let sum = ap (λ m. q * m) (sum_is_lem z (pos n)) in

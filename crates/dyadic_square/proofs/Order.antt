@@ -60,6 +60,7 @@ unfolding z_of
 z-quarter root s i above small a =
     omega (arith, half_bits root.x s.x a.column s.level (is_right i) above small a.x, half_bits root.y s.y a.row s.level (is_upper i) above small a.y)
 
+-- a rank, written out
 pub rank_is : (root s : Square) → rank_of root s ≡ 64 * z_of root s + (63 - s.level)
 unfolding rank_of
 rank_is root s = refl
@@ -99,11 +100,13 @@ ranks-rise (Branch a b c d) root s small fits al =
           (Rising-append n (preorder c q2) (preorder d q3) (base + 128 * step) (base + 192 * step) (64 * (z_of root s + 4 ^ s.level)) m2 m3)),
     )
 
+-- the ranks of a tree's squares rise strictly in preorder
 pub preorder-rises : (t : Tree) (root : Square) → root.level ≤ 37 → Fits t root.level → IsStrictlyIncreasing (map (λ (s : TreeSquare). rank_of root s.square) (preorder t root))
 preorder-rises t root small fits =
     increasing_from_Rising (λ (s : TreeSquare). rank_of root s.square) (preorder t root) (rank_of root root) (64 * (z_of root root + 4 ^ root.level))
     (ranks-rise t root root small fits (aligned-refl root))
 
+-- so that its squares, sorted by rank, are its preorder
 pub sorted-preorder : (t : Tree) (root : Square) (sorted : List TreeSquare) → root.level ≤ 37 → Fits t root.level → IsPermutation sorted (preorder t root) → IsNonDecreasingBy (λ (s : TreeSquare). rank_of root s.square) sorted → sorted ≡ preorder t root
 sorted-preorder t root sorted small fits p up =
     sorted_same same_tree_square tree_square_decides (λ (s : TreeSquare). rank_of root s.square) sorted (preorder t root) (rank_of root root) (64 * (z_of root root + 4 ^ root.level))

@@ -32,6 +32,7 @@ halves low half len q v e =
     rw (plus_zero low, plus_plus low half half, ← e)
     (cut (pos q *ℤ low) (pos q *ℤ (low +ℤ pos half)) (pos q *ℤ (low +ℤ pos len)) (pos 65536 *ℤ v) (omega (arith, ints)) (omega (arith, ints)))
 
+-- the quarters of a square hold each of its points once, and no other
 pub quarters-tile : (s : Square) → 0 < s.level → Tiles (quarters s) s
 unfolding holds
 quarters-tile s above p =
@@ -41,6 +42,7 @@ quarters-tile s above p =
 closed_span : (low : ℤ) (len q : ℕ) (v : ℤ) → spans low len q v ≡ true → spans_closed low len q v ≡ true
 closed_span low len q v h = grind (arith, ints)
 
+-- the closed square holds what the half-open one holds
 pub holds_closed_from_holds : (s : Square) (p : Point) → holds s p ≡ true → holds_closed s p ≡ true
 unfolding holds holds_closed
 holds_closed_from_holds s p h =

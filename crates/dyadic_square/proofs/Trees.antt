@@ -21,6 +21,7 @@ square_is x x' y y' l l' ex ey el =
     let large : ℕ → Square = λ n. record { x = x'; y = y'; level = n } in
     ap across ex ∙ ap upwards ey ∙ ap large el
 
+-- the test of two squares tells whether they are equal
 pub square_decides : (a b : Square) → Decides (same_square a b) (a ≡ b)
 square_decides a b = (
   λ yes.
@@ -42,9 +43,11 @@ bool_decides true false = (λ e. sym e, λ e. sym e)
 bool_decides false true = (λ e. e, λ e. e)
 bool_decides false false = (λ e. refl, λ e. refl)
 
+-- a test of two squares of trees
 abbrev pub same_tree_square : TreeSquare → TreeSquare → Bool
 same_tree_square a b = same_square a.square b.square && same_bool a.is_split b.is_split
 
+-- it tells whether they are equal
 pub tree_square_decides : (a b : TreeSquare) → Decides (same_tree_square a b) (a ≡ b)
 tree_square_decides a b = (
   λ yes.
@@ -92,6 +95,7 @@ total-held (Branch a b c d) root p fits =
       quarters-tile root fits.0 p,
     )
 
+-- the leaves of a tree hold each point of its root once, and no other
 pub leaves-tile : (t : Tree) (root : Square) → Fits t root.level → Tiles (leaves (preorder t root)) root
 leaves-tile t root fits p =
     count_by-total (λ (s : Square). holds s p) (leaves (preorder t root))
@@ -99,9 +103,11 @@ leaves-tile t root fits p =
 
 -- ---- cutting a leaf
 
+-- a square that has no quarters in a tree
 abbrev pub leaf_at : Square → TreeSquare
 leaf_at s = record { square = s; is_split = false }
 
+-- one that has
 abbrev pub split_at : Square → TreeSquare
 split_at s = record { square = s; is_split = true }
 

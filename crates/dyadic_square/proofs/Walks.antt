@@ -47,6 +47,7 @@ split_first q s ts us e all =
     let first : Square → List TreeSquare = λ z. split_at z ∷ ts in
     ap first e ∙ ap (λ z. split_at s ∷ z) all
 
+-- a square is read: its quarters come next where it is split
 read_one : (n : ℕ) (reads : Reads n) (b : Bool) (q s : Square) (coming : List Square) (ts : List TreeSquare) → length ts ≤ n → q ≡ s → OnTrue b (0 < s.level) → Walks (coming_after s b coming) ts → IsRead s coming (record { square = q; is_split = b } ∷ ts)
 read_one n reads false q s coming ts few e above walk =
     let first : Square → TreeSquare = λ z. record { square = z; is_split = false } in
@@ -79,10 +80,12 @@ nothing_left : (rest : List TreeSquare) → Walks [] rest → rest ≡ []
 nothing_left [] walk = refl
 nothing_left (t ∷ ts) walk = absurd walk
 
+-- the preorder of a tree is read as one
 pub walk-preorder : (t : Tree) (root : Square) → Fits t root.level → Walks (root ∷ []) (preorder t root)
 walk-preorder t root fits =
     rw append-nil at (walk-tree t root [] [] fits tt)
 
+-- and what is read as one is the preorder of a tree
 pub tree-walk : (root : Square) (squares : List TreeSquare) → Walks (root ∷ []) squares → (t : Tree) × Fits t root.level × (squares ≡ preorder t root)
 tree-walk root squares walk =
     let r = read-tree root [] squares walk in

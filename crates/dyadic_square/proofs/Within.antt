@@ -8,10 +8,12 @@ use Rattle.siting_definitions.specs.Tree.{Tree, Leaf, Branch, Fits, TreeSquare, 
 use Rattle.dyadic_square.specs.Within.{LiesWithin}
 use Rattle.dyadic_square.proofs.Numbers.{two_halves}
 
+-- a quarter begins half a side away at most
 pub far_small : (far : Bool) (half : ℕ) → far_by far half ≤ half
 far_small true half = omega arith
 far_small false half = omega arith
 
+-- a quarter lies within its square
 pub quarter-within : (s : Square) (i : ℕ) → 0 < s.level → LiesWithin s (quarter_of s i)
 quarter-within s i above = record {
   level = omega arith;
@@ -31,9 +33,11 @@ within-trans a b c o i = record { level = omega arith; left = omega (arith, ints
 pub square_within : (root s : Square) → IsSquare root → LiesWithin root s → IsSquare s
 square_within root s limits within = record { level = omega arith; left = omega (arith, ints); right = omega (arith, ints); lower = omega (arith, ints); upper = omega (arith, ints) }
 
+-- and is within the limits where the square is
 pub quarter-lawful : (s : Square) (i : ℕ) → 0 < s.level → IsSquare s → IsSquare (quarter_of s i)
 quarter-lawful s i above limits = square_within s (quarter_of s i) limits (quarter-within s i above)
 
+-- what holds of each quarter holds of the list of them
 pub quarters-all : (P : Square → Type 0) (s : Square) → ((i : ℕ) → P (quarter_of s i)) → All P (quarters s)
 quarters-all P s each =
     All-cons P (quarter_of s 0) (quarter_of s 1 ∷ quarter_of s 2 ∷ quarter_of s 3 ∷ []) (each 0)
@@ -56,10 +60,12 @@ tree-all P each (Branch a b c d) root fits here =
     (All-append Q (preorder b (quarter_of root 1)) _ second
     (All-append Q (preorder c (quarter_of root 2)) (preorder d (quarter_of root 3)) third fourth)))
 
+-- the squares of a tree lie within its root
 pub tree-within : (t : Tree) (root : Square) → Fits t root.level → All (λ (s : TreeSquare). LiesWithin root s.square) (preorder t root)
 tree-within t root fits =
     tree-all (LiesWithin root) (λ s i above within. within-trans root s (quarter_of s i) within (quarter-within s i above)) t root fits (within-refl root)
 
+-- and are within the limits where the root is
 pub tree-lawful : (t : Tree) (root : Square) → Fits t root.level → IsSquare root → All (λ (s : TreeSquare). IsSquare s.square) (preorder t root)
 tree-lawful t root fits limits =
     All-weaker (λ (s : TreeSquare). LiesWithin root s.square) (λ (s : TreeSquare). IsSquare s.square)

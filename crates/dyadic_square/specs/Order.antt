@@ -11,7 +11,8 @@ spread (suc n) a = 4 * spread n (a / 2) + a % 2
 abbrev pub way_between : ℤ → ℤ → ℕ
 way_between a b = unsigned_abs (a -ℤ b)
 
--- the bits of both ways from the root's corner to the square's, each bit of y above the bit of x of its place
+-- the bits of both ways from the root's corner to the square's, each bit of y above the bit of x of
+-- its place
 unfoldable pub z_of : Square → Square → ℕ
 z_of root s = spread 40 (way_between s.x root.x) + 2 * spread 40 (way_between s.y root.y)
 

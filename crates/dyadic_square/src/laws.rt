@@ -19,20 +19,23 @@ pub fn quarters_tile()
 
 /// The leaves of a tree hold each point of its root once, and no other.
 pub fn leaves_tile()
-    ensures { (t : Tree) (root : Square) → Fits t root.level → Tiles (leaves (preorder t root)) root }
+    ensures { (t : Tree) (root : Square)
+        → Fits t root.level → Tiles (leaves (preorder t root)) root }
 {}
 
 /// A tree has one square, and four more for each that is split.
 pub fn tree_size()
     ensures { (t : Tree) (root : Square)
-        → length (preorder t root) ≡ 1 + 4 * count_by (λ (s : TreeSquare). s.is_split) (preorder t root) }
+        → length (preorder t root)
+        ≡ 1 + 4 * count_by (λ (s : TreeSquare). s.is_split) (preorder t root) }
 {}
 
 /// The lists that are read in preorder, with a list of the squares to come, are the preorders of trees.
 pub fn walks_are_trees()
     ensures tree { (root : Square) (squares : List TreeSquare) → Walks (root ∷ []) squares
         → (t : Tree) × Fits t root.level × (squares ≡ preorder t root) }
-    ensures walk { (t : Tree) (root : Square) → Fits t root.level → Walks (root ∷ []) (preorder t root) }
+    ensures walk { (t : Tree) (root : Square)
+        → Fits t root.level → Walks (root ∷ []) (preorder t root) }
 {}
 
 /// The squares of a tree are within the limits, and lie within its root.
@@ -63,7 +66,8 @@ pub fn preorder_rises()
 
 /// The squares of a tree, sorted by their ranks, are its preorder.
 pub fn sorted_is_preorder()
-    ensures { (t : Tree) (root : Square) (sorted : List TreeSquare) → root.level ≤ 37 → Fits t root.level
+    ensures { (t : Tree) (root : Square) (sorted : List TreeSquare)
+        → root.level ≤ 37 → Fits t root.level
         → IsPermutation sorted (preorder t root)
         → IsNonDecreasingBy (λ (s : TreeSquare). rank_of root s.square) sorted
         → sorted ≡ preorder t root }

@@ -7,15 +7,14 @@ use Rattle.std.specs.Prelude.{unsigned_abs, int_le}
 use borrow.Author.Differences.{up, down, ints, same_in}
 use Rattle.siting_definitions.specs.Point.{Place, Pt, Point, point_of, side}
 use Rattle.siting_definitions.specs.Square.{Square, holds_closed, spans_closed, corner_of}
-use Rattle.siting_definitions.proofs.Integers.{diff, diffs, diff-eq, as_diff, mul_le_ℤ, mul_lt_ℤ, mul_minus_ℤ, mul_assoc_ℤ, mul_comm_ℤ, int_le-true}
+use Rattle.siting_definitions.proofs.Integers.{diff, diffs, diff-eq, as_diff, scale_le_ℤ, mul_lt_ℤ, mul_minus_ℤ, mul_assoc_ℤ, mul_comm_ℤ, size_of_nonneg}
+use Rattle.dyadic_square.proofs.Spans.{at_least_low, at_most_high}
 
 -- ---- products keep the order, by the sign of the factor
-size_of_nonneg : (z : ℤ) → pos 0 ≤ℤ z → z ≡ pos (unsigned_abs z)
-size_of_nonneg z h = same_in _ _ (omega (arith, ints))
-
+-- a factor that isn't below 0 keeps the order
 pub times_le : (u a b : ℤ) → pos 0 ≤ℤ u → a ≤ℤ b → (u *ℤ a) ≤ℤ (u *ℤ b)
 times_le u a b h le =
-    rw (size_of_nonneg u h, mul_comm_ℤ (pos (unsigned_abs u)) a, mul_comm_ℤ (pos (unsigned_abs u)) b) (mul_le_ℤ a b (unsigned_abs u) le)
+    rw (sym (size_of_nonneg u h)) (scale_le_ℤ (unsigned_abs u) a b le)
 
 neg_times-diff : (u u' a a' : ℕ) → neg_ℤ (diff u u') *ℤ diff a a' ≡ neg_ℤ (diff u u' *ℤ diff a a')
 neg_times-diff u u' a a' = simp diffs (diff-eq _ _ _ _ (omega arith))
@@ -23,6 +22,7 @@ neg_times-diff u u' a a' = simp diffs (diff-eq _ _ _ _ (omega arith))
 neg_times : (u a : ℤ) → neg_ℤ u *ℤ a ≡ neg_ℤ (u *ℤ a)
 neg_times u a = rw (as_diff u, as_diff a) (neg_times-diff (up u) (down u) (up a) (down a))
 
+-- and one that isn't above 0 turns it
 pub times_le_back : (u a b : ℤ) → u ≤ℤ pos 0 → a ≤ℤ b → (u *ℤ b) ≤ℤ (u *ℤ a)
 times_le_back u a b h le =
     let e : (neg_ℤ u *ℤ a) ≤ℤ (neg_ℤ u *ℤ b) = times_le (neg_ℤ u) a b (omega (arith, ints)) le in
@@ -68,6 +68,7 @@ difference_le a b c d q h k = rw (mul_minus_ℤ (pos 65536) a b, mul_minus_ℤ (
 difference_ge : (a b c d : ℤ) (q : ℕ) → (pos q *ℤ c) ≤ℤ (pos 65536 *ℤ a) → (pos 65536 *ℤ b) ≤ℤ (pos q *ℤ d) → (pos q *ℤ (c -ℤ d)) ≤ℤ (pos 65536 *ℤ (a -ℤ b))
 difference_ge a b c d q h k = rw (mul_minus_ℤ (pos 65536) a b, mul_minus_ℤ (pos q) c d) (omega (arith, ints))
 
+-- it is below 0 where it is so at all four pairs of ends
 turn_below : (ux uy wx wy x0 x1 y0 y1 : ℤ) (q : ℕ) → 1 ≤ q → IsBetween wx x0 x1 q → IsBetween wy y0 y1 q → (ux *ℤ y0 -ℤ uy *ℤ x0) <ℤ pos 0 → (ux *ℤ y0 -ℤ uy *ℤ x1) <ℤ pos 0 → (ux *ℤ y1 -ℤ uy *ℤ x0) <ℤ pos 0 → (ux *ℤ y1 -ℤ uy *ℤ x1) <ℤ pos 0 → (ux *ℤ wy -ℤ uy *ℤ wx) <ℤ pos 0
 turn_below ux uy wx wy x0 x1 y0 y1 q one x y a b c d =
     by_lt_z ux (pos 0)
@@ -81,6 +82,7 @@ turn_below ux uy wx wy x0 x1 y0 y1 q one x y a b c d =
     (λ low. let m : uy ≤ℤ pos 0 = omega (arith, ints) in below_zero _ _ q one (difference_le (ux *ℤ wy) (uy *ℤ wx) _ _ q (up_high ux wy y0 y1 q y right) (down_high uy wx x0 x1 q x m)) d)
     (λ high. below_zero _ _ q one (difference_le (ux *ℤ wy) (uy *ℤ wx) _ _ q (up_high ux wy y0 y1 q y right) (down_low uy wx x0 x1 q x high)) c))
 
+-- and above 0 likewise
 turn_above : (ux uy wx wy x0 x1 y0 y1 : ℤ) (q : ℕ) → 1 ≤ q → IsBetween wx x0 x1 q → IsBetween wy y0 y1 q → pos 0 <ℤ (ux *ℤ y0 -ℤ uy *ℤ x0) → pos 0 <ℤ (ux *ℤ y0 -ℤ uy *ℤ x1) → pos 0 <ℤ (ux *ℤ y1 -ℤ uy *ℤ x0) → pos 0 <ℤ (ux *ℤ y1 -ℤ uy *ℤ x1) → pos 0 <ℤ (ux *ℤ wy -ℤ uy *ℤ wx)
 turn_above ux uy wx wy x0 x1 y0 y1 q one x y a b c d =
     by_lt_z ux (pos 0)
@@ -104,10 +106,10 @@ low_way low q v a h = rw (mul_minus_ℤ (pos q) low (pos 65536 *ℤ a), mul_minu
 high_way : (high : ℤ) (q : ℕ) (v a : ℤ) → (pos 65536 *ℤ v) ≤ℤ (pos q *ℤ high) → (pos 65536 *ℤ (v -ℤ pos q *ℤ a)) ≤ℤ (pos q *ℤ (high -ℤ pos 65536 *ℤ a))
 high_way high q v a h = rw (mul_minus_ℤ (pos q) high (pos 65536 *ℤ a), mul_minus_ℤ (pos 65536) v (pos q *ℤ a), from_start a q) (omega (arith, ints))
 
+-- a coordinate of the closed square lies between its ends
 ways_between : (low : ℤ) (len q : ℕ) (v a : ℤ) → spans_closed low len q v ≡ true → IsBetween (v -ℤ pos q *ℤ a) (low -ℤ pos 65536 *ℤ a) ((low +ℤ pos len) -ℤ pos 65536 *ℤ a) q
 ways_between low len q v a h =
-    let ends = and_parts (int_le (pos q *ℤ low) (pos 65536 *ℤ v)) (int_le (pos 65536 *ℤ v) (pos q *ℤ (low +ℤ pos len))) h in
-    record { at_least = low_way low q v a (int_le-true _ _ ends.0); at_most = high_way (low +ℤ pos len) q v a (int_le-true _ _ ends.1) }
+    record { at_least = low_way low q v a (at_least_low low len q v h); at_most = high_way (low +ℤ pos len) q v a (at_most_high low len q v h) }
 
 no_more : (z : ℤ) → z +ℤ pos 0 ≡ z
 no_more z = same_in _ _ (omega (arith, ints))

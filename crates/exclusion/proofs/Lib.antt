@@ -1,2 +1,2 @@
-pub mod CornerLemmas
+mod CornerLemmas
 pub mod ExcludedLemmas

@@ -15,5 +15,6 @@ pub fn an_excluded_square_holds_no_permitted_point()
 
 /// The quarters of an excluded square are excluded.
 pub fn quarters_of_an_excluded_square_are_excluded()
-    ensures { (i : Instance) (s : Square) (k : ℕ) → 0 < s.level → is_excluded i s ≡ true → is_excluded i (quarter_of s k) ≡ true }
+    ensures { (i : Instance) (s : Square) (k : ℕ)
+        → 0 < s.level → is_excluded i s ≡ true → is_excluded i (quarter_of s k) ≡ true }
 {}

@@ -57,7 +57,8 @@ fn is_apart(polygon: &Polygon, sq: Square) -> bool
 
 /// Whether the closed square lies strictly to the right of one of the polygon's edges.
 fn has_edge_beside(polygon: &Polygon, sq: Square) -> bool
-    ensures { result ≡ list_any (λ (e : points.Place × points.Place). tests.is_right_of e.0 e.1 sq) (polygons.edges polygon.now) }
+    ensures { result ≡ list_any (λ (e : points.Place × points.Place). tests.is_right_of e.0 e.1 sq)
+        (polygons.edges polygon.now) }
 {
     for i in 0..polygon.len() {
         if is_right_of_edge(polygon, i, sq) {
@@ -70,7 +71,8 @@ fn has_edge_beside(polygon: &Polygon, sq: Square) -> bool
 /// Whether the closed square lies strictly to the right of edge `i`.
 fn is_right_of_edge(polygon: &Polygon, i: usize, sq: Square) -> bool
     requires { i < length polygon.now }
-    ensures { result ≡ tests.is_right_of (polygons.vertex polygon.now i) (polygons.vertex polygon.now (polygons.next_of (length polygon.now) i)) sq }
+    ensures { result ≡ tests.is_right_of (polygons.vertex polygon.now i)
+        (polygons.vertex polygon.now (polygons.next_of (length polygon.now) i)) sq }
 {
     let (a, b) = polygon.edge(i);
     is_right_of(a, b, sq)

@@ -1,5 +1,5 @@
 -- Numbers of 64 bits with a sign as words, in order.
-use Rattle.std.specs.Prelude.{ℕ, suc, ◌+◌, ◌-◌, ◌^◌, ◌==◌, ℤ, pos, negsuc, ◌-ℤ◌, cond, Option, Some, None}
+use Rattle.std.specs.Prelude.{ℕ, suc, ◌+◌, ◌-◌, ◌^◌, ◌==◌, ℤ, pos, negsuc, ◌-ℤ◌, if◌then◌else◌, Option, Some, None}
 
 -- v + 2 ^ 63
 abbrev pub word_of : ℤ → ℕ
@@ -13,4 +13,4 @@ word_in (Some v) = word_of v
 
 -- the number that a word stands for
 abbrev pub number_in : ℕ → Option ℤ
-number_in w = cond (w == 2 ^ 64 - 1) None (Some (pos w -ℤ pos (2 ^ 63)))
+number_in w = if w == 2 ^ 64 - 1 then None else Some (pos w -ℤ pos (2 ^ 63))

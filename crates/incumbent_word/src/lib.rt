@@ -34,14 +34,18 @@ pub fn from_word(word: u64) -> Option<i64>
 
 /// The order of numbers is the order of their words, and different numbers have different words.
 pub fn words_keep_order()
-    ensures less { (a b : ℤ) → FitsSigned w64 a → FitsSigned w64 b → ((a <ℤ b) ↔ (word_of a < word_of b)) }
-    ensures at_most { (a b : ℤ) → FitsSigned w64 a → FitsSigned w64 b → ((a ≤ℤ b) ↔ (word_of a ≤ word_of b)) }
-    ensures same { (a b : ℤ) → FitsSigned w64 a → FitsSigned w64 b → ((a ≡ b) ↔ (word_of a ≡ word_of b)) }
+    ensures less { (a b : ℤ) → FitsSigned w64 a → FitsSigned w64 b
+        → ((a <ℤ b) ↔ (word_of a < word_of b)) }
+    ensures at_most { (a b : ℤ) → FitsSigned w64 a → FitsSigned w64 b
+        → ((a ≤ℤ b) ↔ (word_of a ≤ word_of b)) }
+    ensures same { (a b : ℤ) → FitsSigned w64 a → FitsSigned w64 b
+        → ((a ≡ b) ↔ (word_of a ≡ word_of b)) }
 {}
 
 /// A number below `i64::MAX` comes back from its word, and each word from what it stands for.
 pub fn words_give_numbers_back()
-    ensures number { (v : ℤ) → FitsSigned w64 v → v <ℤ pos (2 ^ 63 - 1) → number_in (word_of v) ≡ Some v }
+    ensures number { (v : ℤ) → FitsSigned w64 v → v <ℤ pos (2 ^ 63 - 1)
+        → number_in (word_of v) ≡ Some v }
     ensures word { (w : ℕ) → w < 2 ^ 64 → word_in (number_in w) ≡ w }
 {}
 
@@ -50,7 +54,7 @@ mod tests {
     use super::*;
 
     #[test]
-    fn words(rt: HostRuntime) {
+    fn words_of_numbers(rt: HostRuntime) {
         for (v, word) in [
             (i64::MIN, 0),
             (-1, 9_223_372_036_854_775_807),

@@ -8,20 +8,13 @@ use Rattle.siting_definitions.specs.Polygon.{doubled_area, turned, IsConvex}
 use Rattle.siting_definitions.specs.Instance.{IsPolygon}
 use Rattle.convex_region.specs.Dent.{IsDent, IsFirstDent}
 use Rattle.instance_text.specs.declared.faults.TheConstants.{NOT_CONVEX}
-use Rattle.instance_text.specs.Convex.{is_convex}
+use Rattle.convex_region.specs.Convex.{is_convex}
 use Rattle.instance_text.specs.Rows.{polygon_of}
-use Rattle.instance_text.proofs.Convexity.{is_convex-iff}
+use Rattle.convex_region.proofs.Convexity.{is_convex-iff}
+use Rattle.convex_region.proofs.Edges.{length-turned}
 use borrow.Author.Differences.{ints}
 
-length-turning : (b : Bool) (v : Place) (vs : List Place) → length (cond b (v ∷ reverse vs) (v ∷ vs)) ≡ length (v ∷ vs)
-length-turning true v vs = omega (arith, length-reverse vs)
-length-turning false v vs = refl
-
-pub length-turned : (vs : List Place) → length (turned vs) ≡ length vs
-unfolding turned
-length-turned [] = cond_both (int_lt (doubled_area []) (pos 0)) [] [] (λ (vs : List Place). length vs ≡ 0) (λ _. refl) (λ _. refl)
-length-turned (v ∷ vs) = length-turning (int_lt (doubled_area (v ∷ vs)) (pos 0)) v vs
-
+-- what was built is what the row says
 pub polygon_of-built : (corners polygon : List Place) → polygon ≡ turned corners → IsPolygon polygon → polygon_of corners ≡ Ok polygon
 polygon_of-built corners polygon same is =
     let as_long : length polygon ≡ length corners = ap length same ∙ length-turned corners in
@@ -36,6 +29,7 @@ dent_not_convex vs i j dent convex =
     let beside = dent.beside in
     absurd (omega (arith, ints))
 
+-- and where there is a dent, the row says that it isn't convex
 pub polygon_of-dent : (corners : List Place) (edge vertex : ℕ) → 3 ≤ length corners → length corners ≤ 64 → IsFirstDent (turned corners) edge vertex → polygon_of corners ≡ Err NOT_CONVEX
 polygon_of-dent corners edge vertex few many first =
     let dented : is_convex (turned corners) ≡ false = false_from_ne_true _ (λ h. dent_not_convex (turned corners) edge vertex first.dent ((is_convex-iff (turned corners)).0 h)) in

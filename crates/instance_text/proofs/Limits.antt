@@ -6,16 +6,17 @@ use Rattle.siting_definitions.specs.Instance.{DemandPt, weight}
 use Rattle.instance_text.specs.Reading.{Found, nothing_found}
 use Rattle.instance_text.specs.declared.phase.Phase.{Phase}
 use Rattle.instance_text.specs.declared.phase.Phase.TheVariants.{Start, Body, Ended}
-use Rattle.instance_text.specs.Lawful.{IsWhole, IsLawful}
+use Rattle.instance_text.specs.KeepsLimits.{IsWhole, KeepsLimits}
 
 -- the weight of one more point
 pub weight_push : (points : List DemandPt) (point : DemandPt) → weight (points ++ point ∷ []) ≡ weight points + unsigned_abs point.w
 unfolding weight
 weight_push points point = sum_by_push (λ (d : DemandPt). unsigned_abs d.w) points point
 
-pub IsLawful-nothing : IsLawful 0 nothing_found
+-- nothing keeps the limits
+pub KeepsLimits-nothing : KeepsLimits 0 nothing_found
 unfolding weight
-IsLawful-nothing = record {
+KeepsLimits-nothing = record {
   weight = refl;
   light = omega arith;
   many_points = omega arith;
@@ -31,8 +32,8 @@ whole_push (Body cutoffs) found points more whole = tt
 whole_push (Ended kind) found points more whole = (omega (arith, whole.0), whole.1)
 
 -- one more point within the limits
-pub IsLawful-point : (w n : ℕ) (found : Found) (point : DemandPt) (points : List DemandPt) → IsLawful w found → length found.points < 4096 → n ≡ unsigned_abs point.w → w + n ≤ 16000000 → points ≡ found.points ++ point ∷ [] → IsLawful (w + n) (record found { points = points })
-IsLawful-point w n found point points lawful few size light pushed =
+pub KeepsLimits-point : (w n : ℕ) (found : Found) (point : DemandPt) (points : List DemandPt) → KeepsLimits w found → length found.points < 4096 → n ≡ unsigned_abs point.w → w + n ≤ 16000000 → points ≡ found.points ++ point ∷ [] → KeepsLimits (w + n) (record found { points = points })
+KeepsLimits-point w n found point points lawful few size light pushed =
     let longer : length points ≡ length found.points + 1 = ap length pushed ∙ length-append found.points (point ∷ []) in
     record {
       weight = rw (pushed, size) (ap (λ m. m + unsigned_abs point.w) lawful.weight ∙ sym (weight_push found.points point));

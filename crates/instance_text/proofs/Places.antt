@@ -1,8 +1,8 @@
 -- Fields that are coordinates in pairs, and those that aren't.
 use Rattle.std.proofs.Common.{◌≡◌, ℕ, suc, ◌%◌, eqb, true, false, List, [], ◌∷◌, length, Err, refl, sym, ◌∙◌, arith}
 use Rattle.std.proofs.lemmas.Bool.{and_from, and_parts, false_from_ne_true, eq-eqb, eqb-true, false≢true, true≢false}
-use Rattle.text_lines.specs.declared.numbers.Within.{Within}
-use Rattle.text_lines.specs.declared.numbers.Within.TheVariants.{NotANumber, Beyond, Value}
+use Rattle.text_lines.specs.declared.numbers.NumberField.{NumberField}
+use Rattle.text_lines.specs.declared.numbers.NumberField.TheVariants.{NotANumber, Beyond, Value}
 use Rattle.instance_text.specs.declared.faults.TheConstants.{OUT_OF_RANGE}
 use Rattle.instance_text.specs.Rows.{is_number, is_in_range, are_numbers, are_coordinates, are_places, places_of, polygon_of, polygon_row}
 
@@ -13,7 +13,7 @@ even_more n even = eq-eqb _ 0 (omega (arith, eqb-true (n % 2) 0 even))
 even_less : (n : ℕ) → eqb (suc (suc n) % 2) 0 ≡ true → eqb (n % 2) 0 ≡ true
 even_less n even = eq-eqb (n % 2) 0 (omega (arith, eqb-true (suc (suc n) % 2) 0 even))
 
-number_in_range : (w : Within) → is_in_range w ≡ true → is_number w ≡ true
+number_in_range : (w : NumberField) → is_in_range w ≡ true → is_number w ≡ true
 number_in_range NotANumber is = is
 number_in_range Beyond is = refl
 number_in_range (Value z) is = refl

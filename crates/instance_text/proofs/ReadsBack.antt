@@ -12,7 +12,7 @@ use Rattle.siting_definitions.specs.declared.Kind.TheVariants.{Sum, Max}
 use Rattle.siting_definitions.specs.Point.{Place}
 use Rattle.siting_definitions.specs.Instance.{DemandPt, Instance, weight, IsPlace, IsDemandPt, IsPolygon, IsInstance}
 use Rattle.siting_definitions.specs.InstanceText.{has_cutoff, kind_field, cutoff_fields, point_line, polygon_line, instance_lines, instance_text}
-use Rattle.text_lines.specs.declared.numbers.Within.TheVariants.{Value}
+use Rattle.text_lines.specs.declared.numbers.NumberField.TheVariants.{Value}
 use Rattle.text_lines.specs.Numbers.{number_of, within}
 use Rattle.text_lines.specs.Words.{is_word, are_words, AreWords}
 use Rattle.text_lines.proofs.ReadBack.{rows_of-text_of}
@@ -21,8 +21,8 @@ use Rattle.instance_text.specs.declared.faults.InstanceFault.{InstanceFault}
 use Rattle.instance_text.specs.declared.phase.Phase.TheVariants.{Body}
 use Rattle.instance_text.specs.Rows.{coordinate_of, weight_of, cutoff_of, point_row, are_numbers, are_coordinates, places_of, polygon_of, polygon_row}
 use Rattle.instance_text.specs.Reading.{Found, nothing_found, take_row, take_line, read_rows, reading}
-use Rattle.instance_text.proofs.Convexity.{is_convex-iff}
-use Rattle.instance_text.proofs.Area.{turned-convex}
+use Rattle.convex_region.proofs.Convexity.{is_convex-iff}
+use Rattle.convex_region.proofs.AreaLemmas.{turned_is}
 use borrow.Author.Differences.{ints}
 
 -- ---- every line is one of words
@@ -44,9 +44,10 @@ all_words : {X : Type 0} (line : X → List (List ℕ)) → ((x : X) → are_wor
 all_words line each [] rest words = words
 all_words line each (x ∷ xs) rest words = and_from _ _ (each x) (all_words line each xs rest words)
 
-header_words : (cutoffs : Bool) → is_word (cond cutoffs (codes "2") (codes "1")) ≡ true
-header_words true = refl
-header_words false = refl
+-- the version of an instance is a word
+pub version_word : (cutoffs : Bool) → is_word (cond cutoffs (codes "2") (codes "1")) ≡ true
+version_word true = refl
+version_word false = refl
 
 kind_words : (kind : Kind) → is_word (kind_field kind) ≡ true
 kind_words Sum = refl
@@ -58,7 +59,7 @@ polygon_words word is vs = and_from _ _ is (places_words vs)
 -- the lines of an instance are lines of words
 pub AreWords-instance_lines : (i : Instance) → AreWords (instance_lines i)
 AreWords-instance_lines i = record {
-  test = rw (header_words (has_cutoff i), kind_words i.kind)
+  test = rw (version_word (has_cutoff i), kind_words i.kind)
       (all_words point_line point_words i.points _
       (all_words (polygon_line (codes "permit")) (polygon_words (codes "permit") refl) i.permitted _
       (all_words (polygon_line (codes "forbid")) (polygon_words (codes "forbid") refl) i.forbidden _ refl)));
@@ -119,7 +120,7 @@ even n m is = eq-eqb (m % 2) 0 (omega arith)
 
 polygon_of-polygon : (vs : List Place) → IsPolygon vs → polygon_of vs ≡ Ok vs
 polygon_of-polygon vs is =
-    rw (le-ltb (length vs) 3 is.few, le-ltb 64 (length vs) is.many, turned-convex vs is.convex, (is_convex-iff vs).1 is.convex) refl
+    rw (le-ltb (length vs) 3 is.few, le-ltb 64 (length vs) is.many, turned_is vs is, (is_convex-iff vs).1 is.convex) refl
 
 polygon_row-polygon : (vs : List Place) → IsPolygon vs → polygon_row (place_fields vs) ≡ Ok vs
 polygon_row-polygon vs is =
@@ -147,7 +148,8 @@ unfolding take_row
 kind_line cutoffs Sum = refl
 kind_line cutoffs Max = refl
 
-weight-append : (ps qs : List DemandPt) → weight (ps ++ qs) ≡ weight ps + weight qs
+-- the weight of points and of more points
+pub weight-append : (ps qs : List DemandPt) → weight (ps ++ qs) ≡ weight ps + weight qs
 unfolding weight
 weight-append ps qs = sum_by-append (λ (d : DemandPt). unsigned_abs d.w) ps qs
 
@@ -156,6 +158,7 @@ unfolding take_row
 take_point_line cutoffs kind points d is may few light =
     rw (point_row-point d cutoffs is may, lt-leb 4096 (length points) few, le-leb (weight (points ++ d ∷ [])) 16000000 light) refl
 
+-- the lines of the points, after some points
 reads_points : (cutoffs : Bool) (kind : Kind) (points ds : List DemandPt) (rows : List (List (List ℕ))) (i : Instance) → All IsDemandPt ds → (list_any (λ (d : DemandPt). is_some d.cutoff) ds ≡ true → cutoffs ≡ true) → length points + length ds ≤ 4096 → weight (points ++ ds) ≤ 16000000 → Reads rows (body cutoffs kind (points ++ ds) [] []) i → Reads (map point_line ds ++ rows) (body cutoffs kind points [] []) i
 reads_points cutoffs kind points [] rows i are may few light reads = rw append-nil at reads
 reads_points cutoffs kind points (d ∷ ds) rows i are may few light reads =
@@ -170,6 +173,7 @@ take_permit_line : (cutoffs : Bool) (kind : Kind) (points : List DemandPt) (perm
 unfolding take_row
 take_permit_line cutoffs kind points permitted vs is few = rw (polygon_row-polygon vs is, lt-leb 64 (length permitted) few) refl
 
+-- the lines of the permitted polygons, after some of them
 reads_permits : (cutoffs : Bool) (kind : Kind) (points : List DemandPt) (permitted polygons : List (List Place)) (rows : List (List (List ℕ))) (i : Instance) → All IsPolygon polygons → length permitted + length polygons ≤ 64 → Reads rows (body cutoffs kind points (permitted ++ polygons) []) i → Reads (map (polygon_line (codes "permit")) polygons ++ rows) (body cutoffs kind points permitted []) i
 reads_permits cutoffs kind points permitted [] rows i are few reads = rw append-nil at reads
 reads_permits cutoffs kind points permitted (vs ∷ polygons) rows i are few reads =
@@ -183,6 +187,7 @@ take_forbid_line : (cutoffs : Bool) (kind : Kind) (points : List DemandPt) (perm
 unfolding take_row
 take_forbid_line cutoffs kind points permitted forbidden vs is few = rw (polygon_row-polygon vs is, lt-leb 64 (length forbidden) few) refl
 
+-- and of the forbidden ones
 reads_forbids : (cutoffs : Bool) (kind : Kind) (points : List DemandPt) (permitted forbidden polygons : List (List Place)) (rows : List (List (List ℕ))) (i : Instance) → All IsPolygon polygons → length forbidden + length polygons ≤ 64 → Reads rows (body cutoffs kind points permitted (forbidden ++ polygons)) i → Reads (map (polygon_line (codes "forbid")) polygons ++ rows) (body cutoffs kind points permitted forbidden) i
 reads_forbids cutoffs kind points permitted forbidden [] rows i are few reads = rw append-nil at reads
 reads_forbids cutoffs kind points permitted forbidden (vs ∷ polygons) rows i are few reads =
@@ -198,6 +203,7 @@ reads_end cutoffs kind [] permitted forbidden some_points some_permitted line = 
 reads_end cutoffs kind (d ∷ ds) [] forbidden some_points some_permitted line = absurd (omega arith)
 reads_end cutoffs kind (d ∷ ds) (vs ∷ polygons) forbidden some_points some_permitted line = refl
 
+-- all lines of an instance, one after another
 reads_instance : (i : Instance) → IsInstance i → Reads (instance_lines i) nothing_found i
 reads_instance i is =
     let cutoffs = has_cutoff i in

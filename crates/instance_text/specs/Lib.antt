@@ -1,7 +1,7 @@
 pub mod Rows
-pub mod Convex
 pub mod Reading
-pub mod Lawful
+pub mod KeepsLimits
 pub mod Outcome
+pub mod InstanceTexts
 pub mod Laws
 pub mod Written

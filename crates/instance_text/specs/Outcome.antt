@@ -6,9 +6,9 @@ use Rattle.instance_text.specs.declared.faults.InstanceError.{InstanceError}
 use Rattle.instance_text.specs.declared.faults.InstanceError.TheVariants.{Fault, NoMemory}
 use Rattle.instance_text.specs.declared.faults.LineError.{LineError}
 use Rattle.instance_text.specs.declared.faults.LineError.TheVariants.{Fault as LineFault, NoMemory as NoLineMemory}
-use Rattle.instance_text.specs.Reading.{Found}
 
--- what a text says was given: the instance, or the first fault; where memory ran out nothing is said
+-- what a text says was given: the instance, or the first fault; where memory ran out nothing is
+-- said
 abbrev pub Gives : Result Instance InstanceError → Result Instance InstanceFault → Type 0
 Gives (Ok instance) read = read ≡ Ok instance
 Gives (Err (Fault fault)) read = read ≡ Err fault
@@ -20,11 +20,11 @@ Says (Ok value) row = row ≡ Ok value
 Says (Err (LineFault number)) row = row ≡ Err number
 Says (Err NoLineMemory) row = ⊤
 
--- what was found became what a line makes of it
-abbrev pub Takes : {T : Type 0} → Result T LineError → Result Found ℕ → Found → Type 0
-Takes (Ok value) row found = row ≡ Ok found
-Takes (Err (LineFault number)) row found = row ≡ Err number
-Takes (Err NoLineMemory) row found = ⊤
+-- what there was became what a line makes of it
+abbrev pub Takes : {T U : Type 0} → Result T LineError → Result U ℕ → U → Type 0
+Takes (Ok value) row now = row ≡ Ok now
+Takes (Err (LineFault number)) row now = row ≡ Err number
+Takes (Err NoLineMemory) row now = ⊤
 
 -- the error of a text of which this is a line's
 abbrev pub error_at : ℕ → LineError → InstanceError

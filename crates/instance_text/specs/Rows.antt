@@ -2,64 +2,75 @@
 use Rattle.std.specs.Prelude.{ℕ, ◌%◌, ◌==◌, nat_lt, Bool, true, false, ◌&&◌, if◌then◌else◌, ℤ, pos, int_le, unsigned_abs, List, [], ◌∷◌, length, codes, Option, Some, None, Result, Ok, Err, ◌≤ℤ◌, ⊤}
 use Rattle.std.specs.List.{list_all}
 use Rattle.std.specs.Str.{bytes_eq}
+use Rattle.siting_definitions.specs.declared.TheConstants.{COORDINATE_LIMIT, WEIGHT_LIMIT, CUTOFF_LIMIT, VERTEX_LIMIT}
 use Rattle.siting_definitions.specs.declared.Kind.{Kind}
 use Rattle.siting_definitions.specs.declared.Kind.TheVariants.{Sum, Max}
 use Rattle.siting_definitions.specs.Point.{Place}
 use Rattle.siting_definitions.specs.Polygon.{turned}
 use Rattle.siting_definitions.specs.Instance.{DemandPt}
-use Rattle.text_lines.specs.declared.numbers.Within.{Within}
-use Rattle.text_lines.specs.declared.numbers.Within.TheVariants.{NotANumber, Beyond, Value}
+use Rattle.text_lines.specs.declared.numbers.NumberField.{NumberField}
+use Rattle.text_lines.specs.declared.numbers.NumberField.TheVariants.{NotANumber, Beyond, Value}
 use Rattle.text_lines.specs.Numbers.{number_of, within}
 use Rattle.instance_text.specs.declared.faults.TheConstants.{BAD_LINE, BAD_NUMBER, OUT_OF_RANGE, ZERO_WEIGHT, TOO_FEW_VERTICES, TOO_MANY_VERTICES, NOT_CONVEX}
-use Rattle.instance_text.specs.Convex.{is_convex}
+use Rattle.convex_region.specs.Convex.{is_convex}
 
 abbrev pub kind_row : List (List ℕ) → Result Kind ℕ
-kind_row (word ∷ []) = if bytes_eq word (codes "sum") then Ok Sum else (if bytes_eq word (codes "max") then Ok Max else Err BAD_LINE)
+kind_row (word ∷ []) =
+    if bytes_eq word (codes "sum") then Ok Sum
+    else if bytes_eq word (codes "max") then Ok Max
+    else Err BAD_LINE
 kind_row fields = Err BAD_LINE
 
-abbrev pub coordinate_of : List ℕ → Within
-coordinate_of field = within 1000000 (number_of field)
+abbrev pub coordinate_of : List ℕ → NumberField
+coordinate_of field = within COORDINATE_LIMIT (number_of field)
 
-abbrev pub weight_of : List ℕ → Within
-weight_of field = within 16000000 (number_of field)
+abbrev pub weight_of : List ℕ → NumberField
+weight_of field = within WEIGHT_LIMIT (number_of field)
 
 -- a number from 1 up
-abbrev pub above_zero : Within → Within
+abbrev pub above_zero : NumberField → NumberField
 above_zero (Value z) = if int_le (pos 1) z then Value z else Beyond
 above_zero other = other
 
-abbrev pub cutoff_of : List ℕ → Within
-cutoff_of field = above_zero (within 4000000 (number_of field))
+abbrev pub cutoff_of : List ℕ → NumberField
+cutoff_of field = above_zero (within CUTOFF_LIMIT (number_of field))
 
-abbrev pub is_number : Within → Bool
+abbrev pub is_number : NumberField → Bool
 is_number NotANumber = false
 is_number Beyond = true
 is_number (Value z) = true
 
-abbrev pub point_of : Within → Within → Within → Option ℤ → Result DemandPt ℕ
-point_of NotANumber y w cutoff = Err BAD_NUMBER
-point_of x NotANumber w cutoff = Err BAD_NUMBER
-point_of x y NotANumber cutoff = Err BAD_NUMBER
-point_of (Value x) (Value y) (Value w) cutoff = if unsigned_abs w == 0 then Err ZERO_WEIGHT else Ok (record { x = x; y = y; w = w; cutoff = cutoff })
-point_of x y w cutoff = Err OUT_OF_RANGE
+abbrev pub demand_of : NumberField → NumberField → NumberField → Option ℤ → Result DemandPt ℕ
+demand_of NotANumber y w cutoff = Err BAD_NUMBER
+demand_of x NotANumber w cutoff = Err BAD_NUMBER
+demand_of x y NotANumber cutoff = Err BAD_NUMBER
+demand_of (Value x) (Value y) (Value w) cutoff =
+    if unsigned_abs w == 0 then Err ZERO_WEIGHT
+    else Ok (record { x = x; y = y; w = w; cutoff = cutoff })
+demand_of x y w cutoff = Err OUT_OF_RANGE
 
 -- a point with a cutoff
-abbrev pub cut_point_of : Within → Within → Within → Within → Result DemandPt ℕ
-cut_point_of x y w NotANumber = Err BAD_NUMBER
-cut_point_of x y w Beyond = Err (if is_number x && (is_number y && is_number w) then OUT_OF_RANGE else BAD_NUMBER)
-cut_point_of x y w (Value cutoff) = point_of x y w (Some cutoff)
+abbrev pub cut_demand_of : NumberField → NumberField → NumberField → NumberField → Result DemandPt ℕ
+cut_demand_of x y w NotANumber = Err BAD_NUMBER
+cut_demand_of x y w Beyond =
+    Err (if is_number x && (is_number y && is_number w) then OUT_OF_RANGE else BAD_NUMBER)
+cut_demand_of x y w (Value cutoff) = demand_of x y w (Some cutoff)
 
 -- whether a point may have a cutoff is said by the header
 abbrev pub point_row : Bool → List (List ℕ) → Result DemandPt ℕ
-point_row cutoffs (x ∷ y ∷ w ∷ []) = point_of (coordinate_of x) (coordinate_of y) (weight_of w) None
-point_row cutoffs (x ∷ y ∷ w ∷ cutoff ∷ []) = if cutoffs then cut_point_of (coordinate_of x) (coordinate_of y) (weight_of w) (cutoff_of cutoff) else Err BAD_LINE
+point_row cutoffs (x ∷ y ∷ w ∷ []) =
+    demand_of (coordinate_of x) (coordinate_of y) (weight_of w) None
+point_row cutoffs (x ∷ y ∷ w ∷ cutoff ∷ []) =
+    if cutoffs
+    then cut_demand_of (coordinate_of x) (coordinate_of y) (weight_of w) (cutoff_of cutoff)
+    else Err BAD_LINE
 point_row cutoffs fields = Err BAD_LINE
 
-abbrev pub is_in_range : Within → Bool
+abbrev pub is_in_range : NumberField → Bool
 is_in_range (Value z) = true
 is_in_range other = false
 
-abbrev pub number_in : Within → ℤ
+abbrev pub number_in : NumberField → ℤ
 number_in (Value z) = z
 number_in other = pos 0
 
@@ -79,18 +90,23 @@ places_of [] = []
 places_of (x ∷ []) = []
 places_of (x ∷ y ∷ fields) = place_from x y ∷ places_of fields
 
+-- whether two fields are coordinates
+abbrev pub is_place : List ℕ → List ℕ → Bool
+is_place x y = is_in_range (coordinate_of x) && is_in_range (coordinate_of y)
+
 -- whether the fields are coordinates, in pairs
 abbrev pub are_places : List (List ℕ) → Bool
 are_places [] = true
 are_places (x ∷ []) = false
-are_places (x ∷ y ∷ fields) = (is_in_range (coordinate_of x) && is_in_range (coordinate_of y)) && are_places fields
+are_places (x ∷ y ∷ fields) = is_place x y && are_places fields
 
 -- the polygon with these vertices in order, counter-clockwise
 abbrev pub polygon_of : List Place → Result (List Place) ℕ
 polygon_of vs =
     if nat_lt (length vs) 3 then Err TOO_FEW_VERTICES
-    else (if nat_lt 64 (length vs) then Err TOO_MANY_VERTICES
-    else (if is_convex (turned vs) then Ok (turned vs) else Err NOT_CONVEX))
+    else if nat_lt VERTEX_LIMIT (length vs) then Err TOO_MANY_VERTICES
+    else if is_convex (turned vs) then Ok (turned vs)
+    else Err NOT_CONVEX
 
 abbrev pub polygon_row : List (List ℕ) → Result (List Place) ℕ
 polygon_row fields =
@@ -101,7 +117,7 @@ polygon_row fields =
     else Err BAD_LINE
 
 -- a cutoff that was found is 1 to 4,000,000
-abbrev pub IsCutoff : Within → Type 0
+abbrev pub IsCutoff : NumberField → Type 0
 IsCutoff NotANumber = ⊤
 IsCutoff Beyond = ⊤
-IsCutoff (Value z) = (pos 1 ≤ℤ z) × (z ≤ℤ pos 4000000)
+IsCutoff (Value z) = (pos 1 ≤ℤ z) × (z ≤ℤ pos CUTOFF_LIMIT)

@@ -16,7 +16,9 @@ pub use faults::{
     NO_PERMIT, NO_POINT, NOT_CONVEX, OUT_OF_RANGE, TOO_FEW_VERTICES, TOO_MANY_POINTS,
     TOO_MANY_POLYGONS, TOO_MANY_VERTICES, TWO_KINDS, WEIGHT_SUM, ZERO_WEIGHT,
 };
-pub use laws::{text_keeps_limits, text_reads_back, texts_differ};
+pub use laws::{
+    canonical_texts_are_short, text_keeps_limits, text_reads_back, text_says_its_rows, texts_differ,
+};
 pub use read::read_instance;
 pub use write::write_instance;
 

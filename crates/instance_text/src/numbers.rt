@@ -2,48 +2,50 @@
 
 ghost use Rattle.std.specs.Prelude.{◌≡◌};
 ghost use Rattle.std.specs.List.{list_all};
+ghost use Rattle.siting_definitions.specs.declared.TheConstants.{COORDINATE_LIMIT, WEIGHT_LIMIT};
 ghost use Rattle.text_lines.specs.Lines.{fields_of};
 ghost use Rattle.text_lines.specs.Numbers.{HasSize};
 ghost use Rattle.instance_text.specs.Rows.{coordinate_of, weight_of, cutoff_of, is_number as tells_number, are_numbers as tells_numbers, IsCutoff};
 
-use text_lines::{Within, next_field, number_within};
+use siting_definitions::{COORDINATE_LIMIT, CUTOFF_LIMIT, WEIGHT_LIMIT};
+use text_lines::{NumberField, next_field, number_within};
 
 /// The coordinate that a field stands for, in lengths, if its size is at most 1,000,000.
-pub fn coordinate(field: &[u8]) -> Within
+pub(crate) fn coordinate(field: &[u8]) -> NumberField
     ensures value { result ≡ coordinate_of field.now }
-    ensures size { HasSize 1000000 result }
+    ensures size { HasSize COORDINATE_LIMIT result }
 {
-    number_within(field, 1_000_000)
+    number_within(field, COORDINATE_LIMIT)
 }
 
 /// The weight that a field stands for, if its size is at most 16,000,000.
-pub fn weight(field: &[u8]) -> Within
+pub(crate) fn weight(field: &[u8]) -> NumberField
     ensures value { result ≡ weight_of field.now }
-    ensures size { HasSize 16000000 result }
+    ensures size { HasSize WEIGHT_LIMIT result }
 {
-    number_within(field, 16_000_000)
+    number_within(field, WEIGHT_LIMIT)
 }
 
 /// The cutoff that a field stands for, in lengths, if it is 1 to 4,000,000.
-pub fn cutoff(field: &[u8]) -> Within
+pub(crate) fn cutoff(field: &[u8]) -> NumberField
     ensures value { result ≡ cutoff_of field.now }
     ensures size { IsCutoff result }
 {
-    match number_within(field, 4_000_000) {
-        Within::Value(value) if value < 1 => Within::Beyond,
+    match number_within(field, CUTOFF_LIMIT) {
+        NumberField::Value(value) if value < 1 => NumberField::Beyond,
         other => other,
     }
 }
 
 /// Whether a field is a number, in its range or not.
-pub fn is_number(value: Within) -> bool
+pub(crate) fn is_number(value: NumberField) -> bool
     ensures { result ≡ tells_number value }
 {
-    !matches!(value, Within::NotANumber)
+    !matches!(value, NumberField::NotANumber)
 }
 
 /// Whether each field is a number.
-pub fn are_numbers(fields: &[u8]) -> bool
+pub(crate) fn are_numbers(fields: &[u8]) -> bool
     ensures { result ≡ tells_numbers (fields_of fields.now) }
 {
     let mut rest = fields;

@@ -4,7 +4,7 @@ use site_model::Kind;
 
 /// How far the lines of an instance text were read.
 #[derive(Clone, Copy, Debug, PartialEq, Eq)]
-pub enum Phase {
+pub(crate) enum Phase {
     /// Before the header.
     Start,
     /// After a header, by which points may have cutoffs or not.

@@ -2,17 +2,18 @@
 
 ghost use Rattle.std.specs.Prelude.{◌≡◌, None, Option, ℤ, pos, ◌≢◌, ◌≤◌, ◌≤ℤ◌, unsigned_abs, MatchOption, ⊤};
 ghost use Rattle.siting_definitions.specs.Instance.{IsCoordinate, IsDemandPt};
+ghost use Rattle.siting_definitions.specs.declared.TheConstants.{COORDINATE_LIMIT, WEIGHT_LIMIT, CUTOFF_LIMIT};
 ghost use Rattle.text_lines.specs.Lines.{fields_of};
 ghost use Rattle.text_lines.specs.Numbers.{HasSize};
-ghost use Rattle.instance_text.specs.Rows.{kind_row, point_of as point_from, cut_point_of as cut_point_from, point_row, IsCutoff};
+ghost use Rattle.instance_text.specs.Rows.{kind_row, demand_of as point_from, cut_demand_of as cut_point_from, point_row, IsCutoff};
 
 use crate::faults::{BAD_LINE, BAD_NUMBER, OUT_OF_RANGE, ZERO_WEIGHT};
 use crate::numbers::{coordinate, cutoff, is_number, weight};
 use site_model::{DemandPt, Kind};
-use text_lines::{Within, is_word, next_field};
+use text_lines::{NumberField, next_field, says};
 
 /// The kind that the fields after `kind` say.
-pub fn read_kind(fields: &[u8]) -> Result<Kind, u8>
+pub(crate) fn read_kind(fields: &[u8]) -> Result<Kind, u8>
     ensures { result ≡ kind_row (fields_of fields.now) }
 {
     let Some((word, rest)) = next_field(fields) else {
@@ -21,9 +22,9 @@ pub fn read_kind(fields: &[u8]) -> Result<Kind, u8>
     if next_field(rest).is_some() {
         return Err(BAD_LINE);
     }
-    if is_word(word, b"sum") {
+    if says(word, b"sum") {
         Ok(Kind::Sum)
-    } else if is_word(word, b"max") {
+    } else if says(word, b"max") {
         Ok(Kind::Max)
     } else {
         Err(BAD_LINE)
@@ -31,7 +32,7 @@ pub fn read_kind(fields: &[u8]) -> Result<Kind, u8>
 }
 
 /// The point that the fields after `point` say, where `cutoffs` says whether a point may have a cutoff.
-pub fn read_point(cutoffs: bool, fields: &[u8]) -> Result<DemandPt, u8>
+pub(crate) fn read_point(cutoffs: bool, fields: &[u8]) -> Result<DemandPt, u8>
     ensures { result ≡ point_row cutoffs (fields_of fields.now) }
 {
     let Some((x, rest)) = next_field(fields) else {
@@ -56,35 +57,45 @@ pub fn read_point(cutoffs: bool, fields: &[u8]) -> Result<DemandPt, u8>
 }
 
 /// The point with a cutoff of these numbers.
-fn cut_point_of(x: Within, y: Within, w: Within, cut: Within) -> Result<DemandPt, u8>
-    requires x { HasSize 1000000 x }
-    requires y { HasSize 1000000 y }
-    requires w { HasSize 16000000 w }
+fn cut_point_of(
+    x: NumberField,
+    y: NumberField,
+    w: NumberField,
+    cut: NumberField,
+) -> Result<DemandPt, u8>
+    requires x { HasSize COORDINATE_LIMIT x }
+    requires y { HasSize COORDINATE_LIMIT y }
+    requires w { HasSize WEIGHT_LIMIT w }
     requires cut { IsCutoff cut }
     ensures { result ≡ cut_point_from x y w cut }
 {
     match cut {
-        Within::NotANumber => Err(BAD_NUMBER),
-        Within::Beyond if is_number(x) & is_number(y) & is_number(w) => Err(OUT_OF_RANGE),
-        Within::Beyond => Err(BAD_NUMBER),
-        Within::Value(cut) => point_of(x, y, w, Some(cut as i32)),
+        NumberField::NotANumber => Err(BAD_NUMBER),
+        NumberField::Beyond if is_number(x) & is_number(y) & is_number(w) => Err(OUT_OF_RANGE),
+        NumberField::Beyond => Err(BAD_NUMBER),
+        NumberField::Value(cut) => point_of(x, y, w, Some(cut as i32)),
     }
 }
 
 /// The point of these numbers.
-fn point_of(x: Within, y: Within, w: Within, cut: Option<i32>) -> Result<DemandPt, u8>
-    requires x { HasSize 1000000 x }
-    requires y { HasSize 1000000 y }
-    requires w { HasSize 16000000 w }
-    requires cut { MatchOption cut ⊤ (λ c. (pos 1 ≤ℤ c) × (c ≤ℤ pos 4000000)) }
+fn point_of(
+    x: NumberField,
+    y: NumberField,
+    w: NumberField,
+    cut: Option<i32>,
+) -> Result<DemandPt, u8>
+    requires x { HasSize COORDINATE_LIMIT x }
+    requires y { HasSize COORDINATE_LIMIT y }
+    requires w { HasSize WEIGHT_LIMIT w }
+    requires cut { MatchOption cut ⊤ (λ c. (pos 1 ≤ℤ c) × (c ≤ℤ pos CUTOFF_LIMIT)) }
     ensures { result ≡ point_from x y w cut }
 {
     match (x, y, w) {
-        (Within::NotANumber, _, _) | (_, Within::NotANumber, _) | (_, _, Within::NotANumber) => Err(
-            BAD_NUMBER,
-        ),
-        (Within::Value(_), Within::Value(_), Within::Value(0)) => Err(ZERO_WEIGHT),
-        (Within::Value(x), Within::Value(y), Within::Value(w)) => Ok(DemandPt::of(
+        (NumberField::NotANumber, _, _)
+        | (_, NumberField::NotANumber, _)
+        | (_, _, NumberField::NotANumber) => Err(BAD_NUMBER),
+        (NumberField::Value(_), NumberField::Value(_), NumberField::Value(0)) => Err(ZERO_WEIGHT),
+        (NumberField::Value(x), NumberField::Value(y), NumberField::Value(w)) => Ok(DemandPt::of(
             x as i32, y as i32, w, cut,
         )),
         _ => Err(OUT_OF_RANGE),

@@ -1,8 +1,8 @@
 //! The polygon of a line.
 
-ghost use Rattle.std.specs.Prelude.{◌≡◌, true, false, ◌&&◌, Err, IfOk, IfNone, IfSome, MatchOption};
+ghost use Rattle.std.specs.Prelude.{◌≡◌, true, false, Err, IfOk, IfNone, IfSome, MatchOption};
 ghost use Rattle.text_lines.specs.Lines.{fields_of};
-ghost use Rattle.instance_text.specs.Rows.{coordinate_of, is_in_range, place_from, are_places, places_of, polygon_of as polygon_from, polygon_row};
+ghost use Rattle.instance_text.specs.Rows.{is_place, place_from, are_places, places_of, polygon_of as polygon_from, polygon_row};
 ghost use Rattle.instance_text.specs.Outcome.{Says};
 
 use crate::faults::{
@@ -12,14 +12,14 @@ use crate::numbers::{are_numbers, coordinate};
 use convex_region::{Polygon, PolygonFault};
 use exact_geometry::Place;
 use std::alloc::{AllocError, Global};
-use text_lines::{Within, count_fields, next_field};
+use text_lines::{NumberField, count_fields, next_field};
 
 /// The polygon that the fields after `permit` or `forbid` say.
-pub fn read_polygon(alloc: Global, fields: &[u8]) -> Result<Polygon, LineError>
+pub(crate) fn read_polygon(alloc: Global, fields: &[u8]) -> Result<Polygon, LineError>
     ensures { Says result (polygon_row (fields_of fields.now)) }
 {
     match places(alloc, fields)? {
-        Some(corners) => polygon_of(alloc, corners.as_slice()),
+        Some(vertices) => polygon_of(alloc, vertices.as_slice()),
         None => Err(LineError::Fault(fault_of(fields))),
     }
 }
@@ -40,10 +40,10 @@ fn fault_of(fields: &[u8]) -> u8
 }
 
 /// The polygon with these vertices in order.
-fn polygon_of(alloc: Global, corners: &[Place]) -> Result<Polygon, LineError>
-    ensures { Says result (polygon_from corners.now) }
+fn polygon_of(alloc: Global, vertices: &[Place]) -> Result<Polygon, LineError>
+    ensures { Says result (polygon_from vertices.now) }
 {
-    match Polygon::build(alloc, corners) {
+    match Polygon::build(alloc, vertices) {
         Ok(polygon) => Ok(polygon),
         Err(PolygonFault::TooFewVertices) => Err(LineError::Fault(TOO_FEW_VERTICES)),
         Err(PolygonFault::TooManyVertices) => Err(LineError::Fault(TOO_MANY_VERTICES)),
@@ -54,18 +54,21 @@ fn polygon_of(alloc: Global, corners: &[Place]) -> Result<Polygon, LineError>
 
 /// The place with these coordinates, or none where one of them isn't a coordinate.
 fn place(x: &[u8], y: &[u8]) -> Option<Place>
-    ensures none { IfNone result ((is_in_range (coordinate_of x.now) && is_in_range (coordinate_of y.now)) ≡ false) }
-    ensures some { IfSome result (λ p. (p ≡ place_from x.now y.now) × ((is_in_range (coordinate_of x.now) && is_in_range (coordinate_of y.now)) ≡ true)) }
+    ensures none { IfNone result (is_place x.now y.now ≡ false) }
+    ensures some { IfSome result (λ p. (p ≡ place_from x.now y.now)
+        × (is_place x.now y.now ≡ true)) }
 {
     match (coordinate(x), coordinate(y)) {
-        (Within::Value(x), Within::Value(y)) => Some(Place::of(x as i32, y as i32)),
+        (NumberField::Value(x), NumberField::Value(y)) => Some(Place::of(x as i32, y as i32)),
         _ => None,
     }
 }
 
 /// The places whose coordinates are the fields, in pairs, or none where the fields aren't that.
 fn places(alloc: Global, fields: &[u8]) -> Result<Option<Vec<Place>>, AllocError>
-    ensures { IfOk result (λ found. MatchOption found (are_places (fields_of fields.now) ≡ false) (λ v. (are_places (fields_of fields.now) ≡ true) × (v.items ≡ places_of (fields_of fields.now)))) }
+    ensures { IfOk result (λ found. MatchOption found (are_places (fields_of fields.now) ≡ false)
+        (λ v. (are_places (fields_of fields.now) ≡ true)
+        × (v.items ≡ places_of (fields_of fields.now)))) }
 {
     let mut places = Vec::new(alloc);
     let mut rest = fields;

@@ -1,7 +1,9 @@
 //! What the lines of an instance text say, one after another.
 
-ghost use Rattle.std.specs.Prelude.{◌≡◌, Ok};
+ghost use Rattle.std.specs.Prelude.{◌≡◌, Ok, OnErr};
 ghost use Rattle.text_lines.specs.Lines.{fields_of};
+ghost use Rattle.instance_text.specs.Reading.{add_polygon};
+ghost use Rattle.instance_text.specs.Outcome.{Takes};
 
 use crate::faults::{
     AFTER_END, BAD_HEADER, BAD_LINE, LineError, NO_END, NO_KIND, NO_PERMIT, NO_POINT,
@@ -12,13 +14,14 @@ use crate::points::{read_kind, read_point};
 use crate::polygons::read_polygon;
 use convex_region::Polygon;
 use site_model::{DemandPt, Instance, Kind};
+use siting_definitions::{POINT_LIMIT, POLYGON_LIMIT, WEIGHT_LIMIT};
 use std::alloc::Global;
 use std::marker::Model;
-use text_lines::{is_passed_over, is_word, next_field};
+use text_lines::{is_passed_over, next_field, says};
 
 /// What the lines say that were read.
 #[derive(Drop)]
-pub struct Reading {
+pub(crate) struct Reading {
     phase: Phase,
     kind: Option<Kind>,
     points: Vec<DemandPt>,
@@ -29,21 +32,20 @@ pub struct Reading {
 
 impl Model for Reading {
     ghost use Rattle.instance_text.specs.Reading.{Found};
-    ghost use Rattle.instance_text.specs.Lawful.{IsLawful};
+    ghost use Rattle.instance_text.specs.KeepsLimits.{found_of, KeepsLimits};
 
     ghost Value = { Found };
 
-    ghost view = { λ a. record { phase = a.phase; kind = a.kind; points = a.points.items; permitted = a.permitted.items; forbidden = a.forbidden.items } };
+    ghost view = { found_of };
 
-    ghost invariant = { λ a. IsLawful a.weight (record { phase = a.phase; kind = a.kind; points = a.points.items; permitted = a.permitted.items; forbidden = a.forbidden.items }) };
+    ghost invariant = { λ a. KeepsLimits a.weight (found_of a) };
 }
 
 impl Reading {
     ghost use Rattle.instance_text.specs.Reading as readings;
-    ghost use Rattle.instance_text.specs.Outcome.{Takes};
 
     /// Before the first line.
-    pub fn new(alloc: Global) -> Reading
+    pub(crate) fn new(alloc: Global) -> Reading
         ensures { result ≡ readings.nothing_found }
     {
         Reading {
@@ -57,7 +59,7 @@ impl Reading {
     }
 
     /// Takes a line.
-    pub fn take_line(&mut self, alloc: Global, line: &[u8]) -> Result<(), LineError>
+    pub(crate) fn take_line(&mut self, alloc: Global, line: &[u8]) -> Result<(), LineError>
         ensures { Takes result (readings.take_line (fields_of line.now) self.old) self.new }
     {
         if is_passed_over(line) {
@@ -82,7 +84,7 @@ impl Reading {
         let Some((version, rest)) = next_field(rest) else {
             return Err(LineError::Fault(BAD_HEADER));
         };
-        if !is_word(word, b"siting") | next_field(rest).is_some() {
+        if !says(word, b"siting") | next_field(rest).is_some() {
             return Err(LineError::Fault(BAD_HEADER));
         }
         self.take_version(version)
@@ -91,10 +93,10 @@ impl Reading {
     fn take_version(&mut self, version: &[u8]) -> Result<(), LineError>
         ensures { Takes result (readings.take_version version.now self.old) self.new }
     {
-        if is_word(version, b"1") {
+        if says(version, b"1") {
             self.phase = Phase::Body(false);
             Ok(())
-        } else if is_word(version, b"2") {
+        } else if says(version, b"2") {
             self.phase = Phase::Body(true);
             Ok(())
         } else {
@@ -110,17 +112,18 @@ impl Reading {
         word: &[u8],
         fields: &[u8],
     ) -> Result<(), LineError>
-        ensures { Takes result (readings.take_row cutoffs word.now (fields_of fields.now) self.old) self.new }
+        ensures { Takes result
+            (readings.take_row cutoffs word.now (fields_of fields.now) self.old) self.new }
     {
-        if is_word(word, b"kind") {
+        if says(word, b"kind") {
             self.take_kind(read_kind(fields)?)
-        } else if is_word(word, b"point") {
+        } else if says(word, b"point") {
             self.take_point(read_point(cutoffs, fields)?)
-        } else if is_word(word, b"permit") {
+        } else if says(word, b"permit") {
             self.take_permit(read_polygon(alloc, fields)?)
-        } else if is_word(word, b"forbid") {
+        } else if says(word, b"forbid") {
             self.take_forbid(read_polygon(alloc, fields)?)
-        } else if is_word(word, b"end") {
+        } else if says(word, b"end") {
             self.take_end(fields)
         } else {
             Err(LineError::Fault(BAD_LINE))
@@ -141,11 +144,11 @@ impl Reading {
     fn take_point(&mut self, point: DemandPt) -> Result<(), LineError>
         ensures { Takes result (readings.take_point (Ok point) self.old) self.new }
     {
-        if self.points.len() >= 4096 {
+        if self.points.len() >= POINT_LIMIT {
             return Err(LineError::Fault(TOO_MANY_POINTS));
         }
         let weight = self.weight + point.w.unsigned_abs();
-        if weight > 16_000_000 {
+        if weight > WEIGHT_LIMIT {
             return Err(LineError::Fault(WEIGHT_SUM));
         }
         if self.points.push(point).is_err() {
@@ -158,25 +161,13 @@ impl Reading {
     fn take_permit(&mut self, polygon: Polygon) -> Result<(), LineError>
         ensures { Takes result (readings.take_permit (Ok polygon) self.old) self.new }
     {
-        if self.permitted.len() >= 64 {
-            return Err(LineError::Fault(TOO_MANY_POLYGONS));
-        }
-        if self.permitted.push(polygon).is_err() {
-            return Err(LineError::NoMemory);
-        }
-        Ok(())
+        push_polygon(&mut self.permitted, polygon)
     }
 
     fn take_forbid(&mut self, polygon: Polygon) -> Result<(), LineError>
         ensures { Takes result (readings.take_forbid (Ok polygon) self.old) self.new }
     {
-        if self.forbidden.len() >= 64 {
-            return Err(LineError::Fault(TOO_MANY_POLYGONS));
-        }
-        if self.forbidden.push(polygon).is_err() {
-            return Err(LineError::NoMemory);
-        }
-        Ok(())
+        push_polygon(&mut self.forbidden, polygon)
     }
 
     fn take_end(&mut self, fields: &[u8]) -> Result<(), LineError>
@@ -199,8 +190,8 @@ impl Reading {
     }
 
     /// The instance that the lines said, or the fault that there is no more of them.
-    pub fn finish(self) -> Result<Instance, u8>
-        ensures { result ≡ readings.finished self.phase self }
+    pub(crate) fn finish(self) -> Result<Instance, u8>
+        ensures { result ≡ readings.finish self.phase self }
     {
         let Reading {
             phase,
@@ -216,4 +207,18 @@ impl Reading {
             Phase::Ended(kind) => Ok(Instance::build(kind, points, permitted, forbidden)),
         }
     }
+}
+
+/// One polygon more, where there is room for it; else they stay the same.
+fn push_polygon(polygons: &mut Vec<Polygon>, polygon: Polygon) -> Result<(), LineError>
+    ensures more { Takes result (add_polygon (Ok polygon) polygons.old.items) polygons.new.items }
+    ensures same { OnErr result (polygons.new.items ≡ polygons.old.items) }
+{
+    if polygons.len() >= POLYGON_LIMIT {
+        return Err(LineError::Fault(TOO_MANY_POLYGONS));
+    }
+    if polygons.push(polygon).is_err() {
+        return Err(LineError::NoMemory);
+    }
+    Ok(())
 }

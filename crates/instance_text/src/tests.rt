@@ -15,7 +15,7 @@ fn fault_of(alloc: Global, text: &[u8]) -> (u8, u64) {
 }
 
 /// A sink that took the canonical text of the instance that a text says.
-fn rewritten(alloc: Global, text: &[u8]) -> Result<SureSink, Fail> {
+fn canonical_text_of(alloc: Global, text: &[u8]) -> Result<SureSink, Fail> {
     let instance = read_instance(alloc, text)?;
     let mut sink = SureSink::with_room(alloc, 1000)?;
     let mut out = Out::new(&mut sink);
@@ -122,7 +122,7 @@ fn the_canonical_text_of_what_was_read(rt: HostRuntime) -> Result<(), Fail> {
         ),
     ];
     for (text, canonical) in cases {
-        let sink = rewritten(rt.alloc(), text)?;
+        let sink = canonical_text_of(rt.alloc(), text)?;
         assert_eq!(rt; sink.bytes(), Some(canonical));
     }
     Ok(())

@@ -3,7 +3,7 @@
 ghost use Rattle.std.specs.Prelude.{◌≡◌};
 ghost use Rattle.std.specs.List.{flat_map};
 ghost use Rattle.siting_definitions.specs.InstanceText.{kind_field, instance_text};
-ghost use Rattle.port_io.specs.Output.{Put, IsOpen, sink_of, stage};
+ghost use Rattle.port_io.specs.Output.{IsOpen, PutOn};
 ghost use Rattle.instance_text.specs.Written.{front_text, point_text, vertex_text, polygon_text};
 
 use convex_region::Polygon;
@@ -15,8 +15,7 @@ use site_model::{DemandPt, Instance, Kind};
 /// `WriteFault` only where the sink's count of faults rose in this call: the sink then took a front of what was put.
 pub fn write_instance<K: Sink>(instance: &Instance, out: &mut Out<K>) -> Result<(), WriteFault>
     requires { IsOpen out.old }
-    ensures same { sink_of out.new ≡ sink_of out.old }
-    ensures put { Put (stage K.room K.taken K.faults out.old) (stage K.room K.taken K.faults out.new) (instance_text instance.now) result }
+    ensures { PutOn K.room K.taken K.faults out.old out.new (instance_text instance.now) result }
 {
     write_front(instance, out)?;
     write_points(instance.points(), out)?;
@@ -28,8 +27,7 @@ pub fn write_instance<K: Sink>(instance: &Instance, out: &mut Out<K>) -> Result<
 /// Puts the header and the kind.
 fn write_front<K: Sink>(instance: &Instance, out: &mut Out<K>) -> Result<(), WriteFault>
     requires { IsOpen out.old }
-    ensures same { sink_of out.new ≡ sink_of out.old }
-    ensures put { Put (stage K.room K.taken K.faults out.old) (stage K.room K.taken K.faults out.new) (front_text instance.now) result }
+    ensures { PutOn K.room K.taken K.faults out.old out.new (front_text instance.now) result }
 {
     let version: &[u8] = if instance.has_cutoff() { b"2" } else { b"1" };
     out.put_pieces(&[
@@ -54,8 +52,8 @@ fn kind_word(kind: Kind) -> &'static [u8]
 /// Puts the lines of points.
 fn write_points<K: Sink>(points: &[DemandPt], out: &mut Out<K>) -> Result<(), WriteFault>
     requires { IsOpen out.old }
-    ensures same { sink_of out.new ≡ sink_of out.old }
-    ensures put { Put (stage K.room K.taken K.faults out.old) (stage K.room K.taken K.faults out.new) (flat_map point_text points.now) result }
+    ensures { PutOn K.room K.taken K.faults out.old out.new
+        (flat_map point_text points.now) result }
 {
     for point in points {
         write_point(point, out)?;
@@ -66,8 +64,7 @@ fn write_points<K: Sink>(points: &[DemandPt], out: &mut Out<K>) -> Result<(), Wr
 /// Puts the line of a point.
 fn write_point<K: Sink>(point: &DemandPt, out: &mut Out<K>) -> Result<(), WriteFault>
     requires { IsOpen out.old }
-    ensures same { sink_of out.new ≡ sink_of out.old }
-    ensures put { Put (stage K.room K.taken K.faults out.old) (stage K.room K.taken K.faults out.new) (point_text point.now) result }
+    ensures { PutOn K.room K.taken K.faults out.old out.new (point_text point.now) result }
 {
     let (x, y) = (i64::from(point.x), i64::from(point.y));
     match point.cutoff {
@@ -101,8 +98,8 @@ fn write_polygons<K: Sink>(
     out: &mut Out<K>,
 ) -> Result<(), WriteFault>
     requires { IsOpen out.old }
-    ensures same { sink_of out.new ≡ sink_of out.old }
-    ensures put { Put (stage K.room K.taken K.faults out.old) (stage K.room K.taken K.faults out.new) (flat_map (polygon_text word.now) polygons.now) result }
+    ensures { PutOn K.room K.taken K.faults out.old out.new
+        (flat_map (polygon_text word.now) polygons.now) result }
 {
     for polygon in polygons {
         write_polygon(word, polygon, out)?;
@@ -117,8 +114,8 @@ fn write_polygon<K: Sink>(
     out: &mut Out<K>,
 ) -> Result<(), WriteFault>
     requires { IsOpen out.old }
-    ensures same { sink_of out.new ≡ sink_of out.old }
-    ensures put { Put (stage K.room K.taken K.faults out.old) (stage K.room K.taken K.faults out.new) (polygon_text word.now polygon.now) result }
+    ensures { PutOn K.room K.taken K.faults out.old out.new
+        (polygon_text word.now polygon.now) result }
 {
     out.put(word)?;
     write_vertices(polygon, out)?;
@@ -128,8 +125,8 @@ fn write_polygon<K: Sink>(
 /// Puts the vertices of a polygon, each coordinate after a space.
 fn write_vertices<K: Sink>(polygon: &Polygon, out: &mut Out<K>) -> Result<(), WriteFault>
     requires { IsOpen out.old }
-    ensures same { sink_of out.new ≡ sink_of out.old }
-    ensures put { Put (stage K.room K.taken K.faults out.old) (stage K.room K.taken K.faults out.new) (flat_map vertex_text polygon.now) result }
+    ensures { PutOn K.room K.taken K.faults out.old out.new
+        (flat_map vertex_text polygon.now) result }
 {
     for i in 0..polygon.len() {
         write_vertex(polygon.vertex(i), out)?;
@@ -140,8 +137,7 @@ fn write_vertices<K: Sink>(polygon: &Polygon, out: &mut Out<K>) -> Result<(), Wr
 /// Puts a vertex, each coordinate after a space.
 fn write_vertex<K: Sink>(vertex: Place, out: &mut Out<K>) -> Result<(), WriteFault>
     requires { IsOpen out.old }
-    ensures same { sink_of out.new ≡ sink_of out.old }
-    ensures put { Put (stage K.room K.taken K.faults out.old) (stage K.room K.taken K.faults out.new) (vertex_text vertex) result }
+    ensures { PutOn K.room K.taken K.faults out.old out.new (vertex_text vertex) result }
 {
     out.put_pieces(&[
         Piece::Text(b" "),

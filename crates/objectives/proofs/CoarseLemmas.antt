@@ -1,7 +1,6 @@
 -- The coarse bound is at most the fine one, and less than it by at most the sum of the weights' sizes less 1.
 use Rattle.std.proofs.Common.{◌≡◌, ℕ, ◌+◌, ◌-◌, ◌*◌, ◌^◌, ◌≤◌, ℤ, pos, negsuc, ◌+ℤ◌, ◌*ℤ◌, ◌≤ℤ◌, ◌<ℤ◌, List, [], ◌∷◌, map, Option, None, Some, refl, ap, ◌∙◌, arith}
 use Rattle.std.proofs.Math.Nat.{mul-le-mul_left}
-use Rattle.std.proofs.lemmas.Bool.{cond-true, cond-false}
 use Rattle.std.proofs.lemmas.List.Sums.{sum_by-cons}
 use Rattle.std.specs.Prelude.{unsigned_abs}
 use Rattle.std.proofs.lemmas.Int.{by_lt_z}
@@ -11,13 +10,14 @@ use Rattle.siting_definitions.specs.Root.{floor_root, ceil_root}
 use Rattle.siting_definitions.specs.Instance.{DemandPt, Instance, place_of, weight}
 use Rattle.siting_definitions.specs.Cost.{terms, total_of}
 use Rattle.siting_definitions.specs.Square.{Square}
-use Rattle.siting_definitions.specs.Bounds.{near2, far2, capped, by_sign, coarse_radius, fine_radius, coarse_of, fine_of}
-use Rattle.siting_definitions.proofs.Integers.{mul_assoc_ℤ, lt-int_lt, le-int_lt}
+use Rattle.siting_definitions.specs.Bounds.{near2, far2, capped, coarse_radius, fine_radius, coarse_of, fine_of}
+use Rattle.siting_definitions.proofs.Integers.{mul_assoc_ℤ}
 use Rattle.siting_definitions.proofs.Totals.{AreBelow, RiseBy, added, total-mono, total-scaled, total-drift}
 use Rattle.root_enclosure.proofs.RootLemmas.{floor_root-finer_above, floor_root-finer_below, ceil_root-finer_above, ceil_root-finer_below}
-use Rattle.objectives.proofs.BoundLemmas.{round_down-le, le-round_down}
+use Rattle.objectives.proofs.BoundLemmas.{at_positive, at_negative, round_down-le, le-round_down}
 
 -- ---- one radius
+-- capping keeps what finer units add to a radius
 capped-finer_below : (o : Option ℤ) (c f : ℕ) → 65536 * c ≤ f → 65536 * capped o 65536 c ≤ capped o (2 ^ 32) f
 capped-finer_below None c f h = h
 capped-finer_below (Some k) c f h = omega arith
@@ -67,12 +67,6 @@ term-moved w a b e h k =
     by_lt_z (pos 0) w (λ above. positive_le w a b e (no_down w above) (h above)) (λ below. negative_le w a b e (no_up w below) (k below))
 
 -- ---- the radii, by the sign of the weight
-pub at_positive : (d : DemandPt) (a b : ℕ) → pos 0 <ℤ d.w → by_sign d a b ≡ a
-at_positive d a b h = cond-true _ a b (lt-int_lt (pos 0) d.w h)
-
-pub at_negative : (d : DemandPt) (a b : ℕ) → d.w ≤ℤ pos 0 → by_sign d a b ≡ b
-at_negative d a b h = cond-false _ a b (le-int_lt (pos 0) d.w h)
-
 fine_above : (s : Square) (d : DemandPt) → pos 0 <ℤ d.w → 65536 * coarse_radius s d ≤ fine_radius s d
 unfolding coarse_radius fine_radius
 fine_above s d h =
@@ -111,14 +105,17 @@ fine_term s d =
     rw (finer d.w (coarse_radius s d))
     (term-moved d.w (fine_radius s d) (65536 * coarse_radius s d) 65535 (fine_within s d) (fine_less s d))
 
+-- each coarse term, in finer units, is at most the fine one
 coarse_terms : (s : Square) (ds : List DemandPt) → AreBelow (map (λ z. z *ℤ pos 65536) (terms ds (map (coarse_radius s) ds))) (terms ds (map (fine_radius s) ds))
 coarse_terms s [] = tt
 coarse_terms s (d ∷ ds) = (coarse_term s d, coarse_terms s ds)
 
+-- a fine term is above the coarse one, in finer units, by less than the weight's size
 fine_terms : (s : Square) (ds : List DemandPt) → RiseBy (map (λ z. z *ℤ pos 65536) (terms ds (map (coarse_radius s) ds))) (terms ds (map (fine_radius s) ds)) (map (λ (d : DemandPt). unsigned_abs d.w * 65535) ds)
 fine_terms s [] = tt
 fine_terms s (d ∷ ds) = (fine_term s d, fine_terms s ds)
 
+-- the sum of the weights' sizes, each times e
 pub added_weights : (ds : List DemandPt) (e : ℕ) → added (map (λ (d : DemandPt). unsigned_abs d.w * e) ds) ≡ weight ds * e
 unfolding weight
 added_weights [] e = omega arith
@@ -127,6 +124,7 @@ added_weights (d ∷ ds) e =
     omega (arith, added_weights ds e, more)
 
 -- ---- the laws
+-- the coarse bound is at most the fine one
 pub coarse_of-le-fine_of : (i : Instance) (s : Square) → coarse_of i s ≤ℤ fine_of i s
 unfolding coarse_of fine_of total_of
 coarse_of-le-fine_of i s =
@@ -137,6 +135,7 @@ coarse_of-le-fine_of i s =
 less_than_weight : (t c : ℤ) (w : ℕ) → 1 ≤ w → t ≤ℤ (c *ℤ pos 65536 +ℤ pos (w * 65535)) → round_down t ≤ℤ (c +ℤ pos (w - 1))
 less_than_weight t c w one h = let e = round_down-le t in omega (arith, ints, e)
 
+-- which is above it by less than the sum of the weights' sizes
 pub fine_of-le-coarse_of : (i : Instance) (s : Square) → 1 ≤ weight i.points → fine_of i s ≤ℤ (coarse_of i s +ℤ pos (weight i.points - 1))
 unfolding coarse_of fine_of total_of
 fine_of-le-coarse_of i s one =

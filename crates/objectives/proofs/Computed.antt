@@ -14,75 +14,88 @@ use Rattle.siting_definitions.specs.Square.{Square}
 use Rattle.siting_definitions.specs.Bounds.{near2, far2, capped, coarse_radius, fine_radius, lower_radius, upper_radius, coarse_of, fine_of, lower_of, upper_of}
 use Rattle.dist_bounds.specs.Limits.{longest}
 use Rattle.siting_definitions.proofs.Integers.{int_lt-true, int_lt-false}
-use Rattle.objectives.proofs.CoarseLemmas.{at_positive, at_negative}
+use Rattle.objectives.proofs.BoundLemmas.{at_positive, at_negative}
 
 -- ---- a weight that was tested
 weight-passed : (w : ℤ) → unsigned_abs w ≤ 16000000 → to_z w64 (of_z w64 w) ≡ w
 weight-passed w h = same_in _ _ (omega (arith, ints))
 
+-- a test of a weight's sign, as the code makes it
 pub attracts : (w : ℤ) → unsigned_abs w ≤ 16000000 → int_lt (pos 0) (to_z w64 (of_z w64 w)) ≡ true → pos 0 <ℤ w
 attracts w small h = int_lt-true (pos 0) w (rw (weight-passed w small) at h)
 
+-- where it fails
 pub repels : (w : ℤ) → unsigned_abs w ≤ 16000000 → int_lt (pos 0) (to_z w64 (of_z w64 w)) ≡ false → w ≤ℤ pos 0
 repels w small h = int_lt-false (pos 0) w (rw (weight-passed w small) at h)
 
--- ---- the radii
+-- ---- the radii, by the steps in which the code makes them
 pub coarse-attracting : (s : Square) (d : DemandPt) (a : Place) (m f r : ℕ) → pos 0 <ℤ d.w → a ≡ place_of d → m ≡ near2 s a → f ≡ floor_root m → r ≡ capped d.cutoff 65536 f → r ≡ coarse_radius s d
 unfolding coarse_radius
 coarse-attracting s d a m f r h ea em ef er =
     er ∙ ap (capped d.cutoff 65536) (ef ∙ ap floor_root (em ∙ ap (near2 s) ea)) ∙ sym (at_positive d _ _ h)
 
+-- coarse, of a point that repels
 pub coarse-repelling : (s : Square) (d : DemandPt) (a : Place) (m f r : ℕ) → d.w ≤ℤ pos 0 → a ≡ place_of d → m ≡ far2 s a → f ≡ ceil_root m → r ≡ capped d.cutoff 65536 f → r ≡ coarse_radius s d
 unfolding coarse_radius
 coarse-repelling s d a m f r h ea em ef er =
     er ∙ ap (capped d.cutoff 65536) (ef ∙ ap ceil_root (em ∙ ap (far2 s) ea)) ∙ sym (at_negative d _ _ h)
 
+-- fine, of a point that attracts
 pub fine-attracting : (s : Square) (d : DemandPt) (a : Place) (m f r : ℕ) → pos 0 <ℤ d.w → a ≡ place_of d → m ≡ near2 s a → f ≡ floor_root (m * 2 ^ 32) → r ≡ capped d.cutoff (2 ^ 32) f → r ≡ fine_radius s d
 unfolding fine_radius
 fine-attracting s d a m f r h ea em ef er =
     er ∙ ap (capped d.cutoff (2 ^ 32)) (ef ∙ ap (λ n. floor_root (n * 2 ^ 32)) (em ∙ ap (near2 s) ea)) ∙ sym (at_positive d _ _ h)
 
+-- fine, of one that repels
 pub fine-repelling : (s : Square) (d : DemandPt) (a : Place) (m f r : ℕ) → d.w ≤ℤ pos 0 → a ≡ place_of d → m ≡ far2 s a → f ≡ ceil_root (m * 2 ^ 32) → r ≡ capped d.cutoff (2 ^ 32) f → r ≡ fine_radius s d
 unfolding fine_radius
 fine-repelling s d a m f r h ea em ef er =
     er ∙ ap (capped d.cutoff (2 ^ 32)) (ef ∙ ap (λ n. ceil_root (n * 2 ^ 32)) (em ∙ ap (far2 s) ea)) ∙ sym (at_negative d _ _ h)
 
+-- of a site's lower cost, of a point that attracts
 pub lower-attracting : (z : Pt) (d : DemandPt) (m f r : ℕ) → pos 0 <ℤ d.w → m ≡ distance2 (place_of d) (point_of z) → f ≡ floor_root (m * 2 ^ 32) → r ≡ capped d.cutoff (2 ^ 32) f → r ≡ lower_radius z d
 unfolding lower_radius
 lower-attracting z d m f r h em ef er =
     er ∙ ap (capped d.cutoff (2 ^ 32)) (ef ∙ ap (λ n. floor_root (n * 2 ^ 32)) em) ∙ sym (at_positive d _ _ h)
 
+-- and of one that repels
 pub lower-repelling : (z : Pt) (d : DemandPt) (m f r : ℕ) → d.w ≤ℤ pos 0 → m ≡ distance2 (place_of d) (point_of z) → f ≡ ceil_root (m * 2 ^ 32) → r ≡ capped d.cutoff (2 ^ 32) f → r ≡ lower_radius z d
 unfolding lower_radius
 lower-repelling z d m f r h em ef er =
     er ∙ ap (capped d.cutoff (2 ^ 32)) (ef ∙ ap (λ n. ceil_root (n * 2 ^ 32)) em) ∙ sym (at_negative d _ _ h)
 
+-- of a site's upper cost, of a point that attracts
 pub upper-attracting : (z : Pt) (d : DemandPt) (m f r : ℕ) → pos 0 <ℤ d.w → m ≡ distance2 (place_of d) (point_of z) → f ≡ ceil_root (m * 2 ^ 32) → r ≡ capped d.cutoff (2 ^ 32) f → r ≡ upper_radius z d
 unfolding upper_radius
 upper-attracting z d m f r h em ef er =
     er ∙ ap (capped d.cutoff (2 ^ 32)) (ef ∙ ap (λ n. ceil_root (n * 2 ^ 32)) em) ∙ sym (at_positive d _ _ h)
 
+-- and of one that repels
 pub upper-repelling : (z : Pt) (d : DemandPt) (m f r : ℕ) → d.w ≤ℤ pos 0 → m ≡ distance2 (place_of d) (point_of z) → f ≡ floor_root (m * 2 ^ 32) → r ≡ capped d.cutoff (2 ^ 32) f → r ≡ upper_radius z d
 unfolding upper_radius
 upper-repelling z d m f r h em ef er =
     er ∙ ap (capped d.cutoff (2 ^ 32)) (ef ∙ ap (λ n. floor_root (n * 2 ^ 32)) em) ∙ sym (at_negative d _ _ h)
 
--- ---- bounds and costs
+-- ---- bounds and costs, by the totals of which the code makes them
 twice-passed : (t : ℤ) → unsigned_abs t ≤ 16000000 * longest → to_z w64 (of_z w64 (to_z w128 (of_z w128 t))) ≡ t
 twice-passed t h = same_in _ _ (omega (arith, ints))
 
+-- the coarse bound
 pub coarse-from : (i : Instance) (s : Square) (t : ℤ) → unsigned_abs t ≤ 16000000 * longest → t ≡ total_of i (map (coarse_radius s) i.points) → to_z w64 (of_z w64 (to_z w128 (of_z w128 t))) ≡ coarse_of i s
 unfolding coarse_of
 coarse-from i s t h e = twice-passed t h ∙ e
 
+-- the fine bound
 pub fine-from : (i : Instance) (s : Square) (t r : ℤ) → FitsSigned w128 t → FitsSigned w64 r → t ≡ total_of i (map (fine_radius s) i.points) → r ≡ round_down (to_z w128 (of_z w128 t)) → to_z w64 (of_z w64 r) ≡ fine_of i s
 unfolding fine_of
 fine-from i s t r f g et er = to_z-of_z w64 r g ∙ er ∙ ap round_down (to_z-of_z w128 t f ∙ et)
 
+-- the lower cost
 pub lower-from : (i : Instance) (z : Pt) (t r : ℤ) → FitsSigned w128 t → FitsSigned w64 r → t ≡ total_of i (map (lower_radius z) i.points) → r ≡ round_down (to_z w128 (of_z w128 t)) → to_z w64 (of_z w64 r) ≡ lower_of i z
 unfolding lower_of
 lower-from i z t r f g et er = to_z-of_z w64 r g ∙ er ∙ ap round_down (to_z-of_z w128 t f ∙ et)
 
+-- the upper cost
 pub upper-from : (i : Instance) (z : Pt) (t r : ℤ) → FitsSigned w128 t → FitsSigned w64 r → t ≡ total_of i (map (upper_radius z) i.points) → r ≡ round_up (to_z w128 (of_z w128 t)) → to_z w64 (of_z w64 r) ≡ upper_of i z
 unfolding upper_of
 upper-from i z t r f g et er = to_z-of_z w64 r g ∙ er ∙ ap round_up (to_z-of_z w128 t f ∙ et)

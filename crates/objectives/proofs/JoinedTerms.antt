@@ -28,12 +28,14 @@ pub greatest_of_terms : (f : DemandPt → ℕ) (ds : List DemandPt) → unwrap_o
 greatest_of_terms f [] = refl
 greatest_of_terms f (d ∷ ds) = ap (λ o. unwrap_or o (pos 0)) (max_at f (d.w *ℤ pos (f d)) ds)
 
+-- the sum over all points is the total of a sum
 pub sum_total : (i : Instance) (f : DemandPt → ℕ) (ds : List DemandPt) (t : ℤ) → Sum ≡ i.kind → ds ≡ i.points → t ≡ unwrap_or (fold (joined_at sum_joined f) None ds) (pos 0) → t ≡ total_of i (map f i.points)
 unfolding total_of
 sum_total i f ds t kind points e =
     e ∙ ap (λ ds. unwrap_or (fold (joined_at sum_joined f) None ds) (pos 0)) points ∙ sum_of_terms f i.points
     ∙ ap (λ k. total k (terms i.points (map f i.points))) kind
 
+-- and the greatest is that of a greatest
 pub greatest_total : (i : Instance) (f : DemandPt → ℕ) (ds : List DemandPt) (t : ℤ) → Max ≡ i.kind → ds ≡ i.points → t ≡ unwrap_or (fold (joined_at max_joined f) None ds) (pos 0) → t ≡ total_of i (map f i.points)
 unfolding total_of
 greatest_total i f ds t kind points e =
@@ -48,12 +50,14 @@ joined_more joined f ds i d so_far w t r within at weight radius before e =
     ∙ ap (λ (d : DemandPt). joined_at joined f s d) at
     ∙ sym (fold_more (joined_at joined f) None ds i d within)
 
+-- it stays within the sizes of the weights times the limit of the radii
 pub joined_small : (joined : Option ℤ → ℤ → ℕ → ℤ) (ds : List DemandPt) (i : ℕ) (d : DemandPt) (so_far : Option ℤ) (w t : ℤ) (r limit : ℕ) → IsTotal joined → i < length ds → d ≡ get_or ds i d → w ≡ d.w → r ≤ limit → size_of so_far ≤ sum_by (λ (d : DemandPt). unsigned_abs d.w) (take i ds) * limit → t ≡ joined so_far w r → unsigned_abs t ≤ sum_by (λ (d : DemandPt). unsigned_abs d.w) (take (i + 1) ds) * limit
 joined_small joined ds i d so_far w t r limit law within at weight short before e =
     let size : DemandPt → ℕ = λ (d : DemandPt). unsigned_abs d.w in
     let more = sum_by_more size ds i d within ∙ ap (λ (d : DemandPt). sum_by size (take i ds) + size d) (sym at) ∙ ap (λ w. sum_by size (take i ds) + unsigned_abs w) (sym weight) in
-    step_small (size_of so_far) (unsigned_abs t) (sum_by size (take i ds)) (unsigned_abs w) limit r (sum_by size (take (i + 1) ds)) before (rw e (law.reaches so_far w r)) short more
+    step_small (size_of so_far) (unsigned_abs t) (sum_by size (take i ds)) (unsigned_abs w) limit r (sum_by size (take (i + 1) ds)) before (rw e (law.grows_by so_far w r)) short more
 
+-- none is 0
 pub unwrap_small : (o : Option ℤ) → unsigned_abs (unwrap_or o (pos 0)) ≤ size_of o
 unwrap_small None = omega arith
 unwrap_small (Some t) = omega arith

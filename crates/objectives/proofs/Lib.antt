@@ -2,6 +2,7 @@ pub mod BoundLemmas
 pub mod CoarseLemmas
 pub mod QuarterLemmas
 pub mod CostOrder
-pub mod Computed
+mod Computed
 pub mod Sizes
-pub mod JoinedTerms
+pub mod SiteSizes
+mod JoinedTerms

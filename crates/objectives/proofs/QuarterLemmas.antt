@@ -1,7 +1,6 @@
 -- The fine bound of a square within another is at least the other's.
 use Rattle.std.proofs.Common.{◌≡◌, ℕ, ◌+◌, ◌-◌, ◌^◌, ◌≤◌, ◌<◌, ℤ, pos, ◌+ℤ◌, ◌*ℤ◌, ◌≤ℤ◌, ◌<ℤ◌, List, [], ◌∷◌, map, Option, None, Some, ap, ◌∙◌, suc, Bool, true, false, arith}
 use Rattle.std.proofs.Math.Nat.{mul-le-mul_right}
-use Rattle.std.proofs.Math.Nat.{pow-suc}
 use Rattle.std.proofs.lemmas.Int.{clamps}
 use Rattle.std.specs.Prelude.{unsigned_abs}
 use borrow.Author.Differences.{ints}
@@ -9,20 +8,15 @@ use Rattle.siting_definitions.specs.Integer.{round_down}
 use Rattle.siting_definitions.specs.Point.{Place}
 use Rattle.siting_definitions.specs.Instance.{DemandPt, Instance, place_of}
 use Rattle.siting_definitions.specs.Cost.{terms, total_of}
-use Rattle.siting_definitions.specs.Square.{Square, quarter_of, far_by, is_right, is_upper}
+use Rattle.siting_definitions.specs.Square.{Square, quarter_of}
 use Rattle.siting_definitions.specs.Bounds.{near_on, far_on, near2, far2, capped, fine_radius, fine_of}
 use Rattle.siting_definitions.proofs.Integers.{square_le}
 use Rattle.siting_definitions.proofs.Totals.{AreBelow, total-mono}
 use Rattle.root_enclosure.proofs.RootLemmas.{floor_root-mono, ceil_root-mono}
-use Rattle.objectives.proofs.BoundLemmas.{round_down-le, le-round_down}
-use Rattle.objectives.proofs.CoarseLemmas.{term-moved, at_positive, at_negative}
-
--- the closed square t lies within the closed square s
-pub record LiesWithin (s t : Square) : Type 0 where
-  pub left : s.x ≤ℤ t.x
-  pub right : (t.x +ℤ pos (2 ^ t.level)) ≤ℤ (s.x +ℤ pos (2 ^ s.level))
-  pub lower : s.y ≤ℤ t.y
-  pub upper : (t.y +ℤ pos (2 ^ t.level)) ≤ℤ (s.y +ℤ pos (2 ^ s.level))
+use Rattle.dyadic_square.specs.Within.{LiesWithin}
+use Rattle.dyadic_square.proofs.Within.{quarter-within}
+use Rattle.objectives.proofs.BoundLemmas.{at_positive, at_negative, round_down-le, le-round_down}
+use Rattle.objectives.proofs.CoarseLemmas.{term-moved}
 
 -- ---- one axis
 near_on-within : (low low' : ℤ) (len len' : ℕ) (a : ℤ) → low ≤ℤ low' → (low' +ℤ pos len') ≤ℤ (low +ℤ pos len) → unsigned_abs (near_on low len a) ≤ unsigned_abs (near_on low' len' a)
@@ -75,24 +69,11 @@ terms_within s t (d ∷ ds) h = (term_within s t d h, terms_within s t ds h)
 round_down-mono : (y z : ℤ) → y ≤ℤ z → round_down y ≤ℤ round_down z
 round_down-mono y z h = let e = round_down-le y in le-round_down z (round_down y) (omega (arith, ints, e))
 
+-- the fine bound of a square within another is at least the other's
 pub fine_of-within : (i : Instance) (s t : Square) → LiesWithin s t → fine_of i s ≤ℤ fine_of i t
 unfolding fine_of total_of
 fine_of-within i s t h = round_down-mono _ _ (total-mono i.kind _ _ (terms_within s t i.points h))
 
--- ---- quarters
-halves : (level : ℕ) → 0 < level → 2 ^ level ≡ 2 ^ (level - 1) + 2 ^ (level - 1)
-halves level h = let e : level ≡ suc (level - 1) = omega arith in ap (λ n. 2 ^ n) e ∙ pow-suc 2 (level - 1) ∙ omega arith
-
-far_by-le : (far : Bool) (len : ℕ) → far_by far len ≤ len
-far_by-le true len = omega arith
-far_by-le false len = omega arith
-
-pub quarter-within : (s : Square) (k : ℕ) → 0 < s.level → LiesWithin s (quarter_of s k)
-quarter-within s k h =
-    let half = halves s.level h in
-    let x = far_by-le (is_right k) (2 ^ (s.level - 1)) in
-    let y = far_by-le (is_upper k) (2 ^ (s.level - 1)) in
-    record { left = omega (arith, ints); right = omega (arith, ints, half, x); lower = omega (arith, ints); upper = omega (arith, ints, half, y) }
-
+-- the fine bound of a quarter is at least the square's
 pub fine_of-quarter : (i : Instance) (s : Square) (k : ℕ) → 0 < s.level → fine_of i s ≤ℤ fine_of i (quarter_of s k)
 fine_of-quarter i s k h = fine_of-within i s (quarter_of s k) (quarter-within s k h)

@@ -1,4 +1,5 @@
--- The sum and the greatest of terms keep the law of totals.
+-- The sum and the greatest of terms keep the law of totals. The proofs stand among the specs, since
+-- the ghost members of an impl, which name them, cite specs alone.
 use Rattle.std.proofs.Common.{◌≡◌, ℕ, ◌+◌, ◌*◌, ◌≤◌, ℤ, pos, negsuc, zero, suc, ◌+ℤ◌, ◌*ℤ◌, ◌≤ℤ◌, ◌<ℤ◌, List, [], ◌∷◌, map, fold, Option, None, Some, refl, sym, ap, ◌∙◌, arith}
 use Rattle.std.proofs.Math.Nat.{mul-le-mul_left}
 use Rattle.std.specs.Prelude.{unsigned_abs, unwrap_or}
@@ -17,14 +18,18 @@ products (w ∷ ws) (r ∷ rs) = (w *ℤ pos r) ∷ products ws rs
 products [] rs = []
 products (w ∷ ws) [] = []
 
-term_rises : (w : ℤ) (r s : ℕ) → (pos 0 <ℤ w → r ≤ s) → (w <ℤ pos 0 → s ≤ r) → (w *ℤ pos r) ≤ℤ (w *ℤ pos s)
+term_rises : (w : ℤ) (r s : ℕ) → (pos 0 <ℤ w → r ≤ s) → (w <ℤ pos 0 → s ≤ r)
+    → (w *ℤ pos r) ≤ℤ (w *ℤ pos s)
 term_rises (pos zero) r s up down = omega (arith, ints)
 term_rises (pos (suc n)) r s up down =
-    let e : suc n * r ≤ suc n * s = mul-le-mul_left (suc n) (up (omega (arith, ints))) in omega (arith, ints, e)
+    let e : suc n * r ≤ suc n * s = mul-le-mul_left (suc n) (up (omega (arith, ints))) in
+    omega (arith, ints, e)
 term_rises (negsuc n) r s up down =
-    let e : suc n * s ≤ suc n * r = mul-le-mul_left (suc n) (down (omega (arith, ints))) in omega (arith, ints, e)
+    let e : suc n * s ≤ suc n * r = mul-le-mul_left (suc n) (down (omega (arith, ints))) in
+    omega (arith, ints, e)
 
-products_rise : (ws : List ℤ) (rs ss : List ℕ) → Grow ws rs ss → AreBelow (products ws rs) (products ws ss)
+products_rise : (ws : List ℤ) (rs ss : List ℕ) → Grow ws rs ss
+    → AreBelow (products ws rs) (products ws ss)
 unfolding products
 products_rise [] [] [] h = tt
 products_rise [] [] (s ∷ ss) h = absurd h
@@ -36,20 +41,23 @@ products_rise (w ∷ ws) (r ∷ rs) (s ∷ ss) h = (term_rises w r s h.0 h.1, pr
 term_scales : (w : ℤ) (r k : ℕ) → w *ℤ pos (r * k) ≡ (w *ℤ pos r) *ℤ pos k
 term_scales w r k = sym (mul_assoc_ℤ w (pos r) (pos k))
 
-products_scale : (ws : List ℤ) (rs : List ℕ) (k : ℕ) → products ws (map (λ r. r * k) rs) ≡ map (λ z. z *ℤ pos k) (products ws rs)
+products_scale : (ws : List ℤ) (rs : List ℕ) (k : ℕ)
+    → products ws (map (λ r. r * k) rs) ≡ map (λ z. z *ℤ pos k) (products ws rs)
 unfolding products
 products_scale [] rs k = refl
 products_scale (w ∷ ws) [] k = refl
 products_scale (w ∷ ws) (r ∷ rs) k = rw (term_scales w r k, products_scale ws rs k) refl
 
 -- ---- joined over a list
-sum_over : (t : ℤ) (ws : List ℤ) (rs : List ℕ) → joined_over sum_joined (Some t) ws rs ≡ Some (fold ◌+ℤ◌ t (products ws rs))
+sum_over : (t : ℤ) (ws : List ℤ) (rs : List ℕ)
+    → joined_over sum_joined (Some t) ws rs ≡ Some (fold ◌+ℤ◌ t (products ws rs))
 unfolding products
 sum_over t [] rs = refl
 sum_over t (w ∷ ws) [] = refl
 sum_over t (w ∷ ws) (r ∷ rs) = sum_over (t +ℤ w *ℤ pos r) ws rs
 
-max_over : (t : ℤ) (ws : List ℤ) (rs : List ℕ) → joined_over max_joined (Some t) ws rs ≡ Some (fold int_max t (products ws rs))
+max_over : (t : ℤ) (ws : List ℤ) (rs : List ℕ)
+    → joined_over max_joined (Some t) ws rs ≡ Some (fold int_max t (products ws rs))
 unfolding products
 max_over t [] rs = refl
 max_over t (w ∷ ws) [] = refl
@@ -63,7 +71,8 @@ unfolding products
 sum_by_total [] rs = refl
 sum_by_total (w ∷ ws) [] = refl
 sum_by_total (w ∷ ws) (r ∷ rs) =
-    ap (λ o. unwrap_or o (pos 0)) (sum_over (w *ℤ pos r) ws rs) ∙ ap (λ z. fold ◌+ℤ◌ z (products ws rs)) (sym (zero_more (w *ℤ pos r)))
+    ap (λ o. unwrap_or o (pos 0)) (sum_over (w *ℤ pos r) ws rs)
+    ∙ ap (λ z. fold ◌+ℤ◌ z (products ws rs)) (sym (zero_more (w *ℤ pos r)))
 
 max_by_total : (ws : List ℤ) (rs : List ℕ) → total_by max_joined ws rs ≡ total Max (products ws rs)
 unfolding products
@@ -72,24 +81,32 @@ max_by_total (w ∷ ws) [] = refl
 max_by_total (w ∷ ws) (r ∷ rs) = ap (λ o. unwrap_or o (pos 0)) (max_over (w *ℤ pos r) ws rs)
 
 -- ---- the law
-sum_reaches : (so_far : Option ℤ) (w : ℤ) (r : ℕ) → unsigned_abs (sum_joined so_far w r) ≤ size_of so_far + unsigned_abs w * r
-sum_reaches None w r = omega (arith, unsigned_abs-mul w (pos r))
-sum_reaches (Some t) w r = omega (arith, ints, unsigned_abs-mul w (pos r))
+sum_grows_by : (so_far : Option ℤ) (w : ℤ) (r : ℕ)
+    → unsigned_abs (sum_joined so_far w r) ≤ size_of so_far + unsigned_abs w * r
+sum_grows_by None w r = omega (arith, unsigned_abs-mul w (pos r))
+sum_grows_by (Some t) w r = omega (arith, ints, unsigned_abs-mul w (pos r))
 
-max_reaches : (so_far : Option ℤ) (w : ℤ) (r : ℕ) → unsigned_abs (max_joined so_far w r) ≤ size_of so_far + unsigned_abs w * r
-max_reaches None w r = omega (arith, unsigned_abs-mul w (pos r))
-max_reaches (Some t) w r = omega (arith, ints, clamps, unsigned_abs-mul w (pos r))
+max_grows_by : (so_far : Option ℤ) (w : ℤ) (r : ℕ)
+    → unsigned_abs (max_joined so_far w r) ≤ size_of so_far + unsigned_abs w * r
+max_grows_by None w r = omega (arith, unsigned_abs-mul w (pos r))
+max_grows_by (Some t) w r = omega (arith, ints, clamps, unsigned_abs-mul w (pos r))
 
 pub sum_is_total : IsTotal sum_joined
 sum_is_total = record {
-  rises = λ ws rs ss h. rw (sum_by_total ws rs, sum_by_total ws ss) (total-mono Sum _ _ (products_rise ws rs ss h));
-  scales = λ ws rs k. rw (sum_by_total ws (map (λ r. r * k) rs), sum_by_total ws rs, products_scale ws rs k) (total-scaled Sum (products ws rs) k);
-  reaches = sum_reaches;
+  rises = λ ws rs ss h.
+      rw (sum_by_total ws rs, sum_by_total ws ss) (total-mono Sum _ _ (products_rise ws rs ss h));
+  scales = λ ws rs k.
+      rw (sum_by_total ws (map (λ r. r * k) rs), sum_by_total ws rs, products_scale ws rs k)
+      (total-scaled Sum (products ws rs) k);
+  grows_by = sum_grows_by;
 }
 
 pub max_is_total : IsTotal max_joined
 max_is_total = record {
-  rises = λ ws rs ss h. rw (max_by_total ws rs, max_by_total ws ss) (total-mono Max _ _ (products_rise ws rs ss h));
-  scales = λ ws rs k. rw (max_by_total ws (map (λ r. r * k) rs), max_by_total ws rs, products_scale ws rs k) (total-scaled Max (products ws rs) k);
-  reaches = max_reaches;
+  rises = λ ws rs ss h.
+      rw (max_by_total ws rs, max_by_total ws ss) (total-mono Max _ _ (products_rise ws rs ss h));
+  scales = λ ws rs k.
+      rw (max_by_total ws (map (λ r. r * k) rs), max_by_total ws rs, products_scale ws rs k)
+      (total-scaled Max (products ws rs) k);
+  grows_by = max_grows_by;
 }

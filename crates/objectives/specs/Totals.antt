@@ -1,4 +1,5 @@
--- Totals that are made step by step, from weights and radii, and the law that each way to make one keeps.
+-- Totals that are made step by step, from weights and radii, and the law that each way to make one
+-- keeps.
 use Rattle.std.specs.Prelude.{◌≡◌, ℕ, ◌+◌, ◌*◌, ◌≤◌, ℤ, pos, ◌+ℤ◌, ◌*ℤ◌, ◌≤ℤ◌, ◌<ℤ◌, unsigned_abs, List, [], ◌∷◌, map, Option, Some, None, unwrap_or, ⊤}
 use Rattle.std.specs.Int.{int_max}
 use Rattle.siting_definitions.specs.Instance.{DemandPt}
@@ -21,7 +22,8 @@ joined_over joined so_far _ _ = so_far
 abbrev pub total_by : (Option ℤ → ℤ → ℕ → ℤ) → List ℤ → List ℕ → ℤ
 total_by joined ws rs = unwrap_or (joined_over joined None ws rs) (pos 0)
 
--- from each radius to the next list's: that of a positive weight doesn't fall, and that of a negative weight doesn't rise
+-- from each radius to the next list's: that of a positive weight doesn't fall, and that of a
+-- negative weight doesn't rise
 abbrev pub Grow : List ℤ → List ℕ → List ℕ → Type 0
 Grow [] [] [] = ⊤
 Grow (w ∷ ws) (r ∷ rs) (s ∷ ss) = (pos 0 <ℤ w → r ≤ s) × (w <ℤ pos 0 → s ≤ r) × Grow ws rs ss
@@ -33,12 +35,16 @@ size_of (Some t) = unsigned_abs t
 
 -- the law of a total
 pub record IsTotal (joined : Option ℤ → ℤ → ℕ → ℤ) : Type 0 where
-  -- it never falls when a radius of positive weight grows, and never rises when a radius of negative weight grows
-  pub rises : (ws : List ℤ) (rs ss : List ℕ) → Grow ws rs ss → total_by joined ws rs ≤ℤ total_by joined ws ss
+  -- it never falls when a radius of positive weight grows, and never rises when a radius of
+  -- negative weight grows
+  pub rises : (ws : List ℤ) (rs ss : List ℕ) → Grow ws rs ss
+      → total_by joined ws rs ≤ℤ total_by joined ws ss
   -- it is multiplied by a number of at least 0 by which every radius is multiplied
-  pub scales : (ws : List ℤ) (rs : List ℕ) (k : ℕ) → total_by joined ws (map (λ r. r * k) rs) ≡ total_by joined ws rs *ℤ pos k
+  pub scales : (ws : List ℤ) (rs : List ℕ) (k : ℕ)
+      → total_by joined ws (map (λ r. r * k) rs) ≡ total_by joined ws rs *ℤ pos k
   -- a step adds no more to its size than the weight times the radius has
-  pub reaches : (so_far : Option ℤ) (w : ℤ) (r : ℕ) → unsigned_abs (joined so_far w r) ≤ size_of so_far + unsigned_abs w * r
+  pub grows_by : (so_far : Option ℤ) (w : ℤ) (r : ℕ)
+      → unsigned_abs (joined so_far w r) ≤ size_of so_far + unsigned_abs w * r
 
 -- the step of a total over demand points
 abbrev pub joined_at : (Option ℤ → ℤ → ℕ → ℤ) → (DemandPt → ℕ) → Option ℤ → DemandPt → Option ℤ

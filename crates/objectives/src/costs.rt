@@ -3,6 +3,7 @@
 ghost use Rattle.std.specs.Prelude.{◌≡◌, ◌*◌, ◌≤◌, pos, ◌≤ℤ◌, unsigned_abs, map, sum_by, fold, unwrap_or, None};
 ghost use Rattle.siting_definitions.specs.Point.{point_of};
 ghost use Rattle.siting_definitions.specs.Instance.{DemandPt};
+ghost use Rattle.siting_definitions.specs.declared.TheConstants.{WEIGHT_LIMIT};
 ghost use Rattle.siting_definitions.specs.Cost.{CostAtLeast, CostAtMost, total_of};
 ghost use Rattle.siting_definitions.specs.Bounds.{lower_of, upper_of, lower_radius, upper_radius};
 ghost use Rattle.dist_bounds.specs.Limits.{longest};
@@ -10,7 +11,7 @@ ghost use Rattle.objectives.specs.Limits.{IsCost};
 ghost use Rattle.objectives.specs.Totals.{joined_at};
 
 use crate::radii::enclosing_radii;
-use crate::rounding::{rounded_down, rounded_up};
+use crate::rounding::{round_down, round_up};
 use crate::total::{MaxTotal, SumTotal, Total};
 use site_model::{DemandPt, Instance, Kind, Site};
 
@@ -26,15 +27,15 @@ pub fn cost_of(instance: &Instance, site: Site) -> (i64, i64)
     ensures upper_size { IsCost result.1 }
 {
     let (lower, upper) = totals_of(instance, site);
-    (rounded_down(lower), rounded_up(upper))
+    (round_down(lower), round_up(upper))
 }
 
 /// The totals of an instance's weights times the lower and times the upper radii of a site.
 fn totals_of(instance: &Instance, site: Site) -> (i128, i128)
     ensures lower { result.0 ≡ total_of instance.now (map (lower_radius site) instance.now.points) }
     ensures upper { result.1 ≡ total_of instance.now (map (upper_radius site) instance.now.points) }
-    ensures lower_size { unsigned_abs result.0 ≤ 16000000 * (65536 * longest) }
-    ensures upper_size { unsigned_abs result.1 ≤ 16000000 * (65536 * longest) }
+    ensures lower_size { unsigned_abs result.0 ≤ WEIGHT_LIMIT * (65536 * longest) }
+    ensures upper_size { unsigned_abs result.1 ≤ WEIGHT_LIMIT * (65536 * longest) }
 {
     match instance.kind() {
         Kind::Sum => totals_by::<SumTotal>(instance.points(), site),
@@ -44,11 +45,13 @@ fn totals_of(instance: &Instance, site: Site) -> (i128, i128)
 
 /// The totals of weights times the lower and times the upper radii of a site, joined one after another.
 fn totals_by<T: Total>(points: &[DemandPt], site: Site) -> (i128, i128)
-    requires { sum_by (λ (d : DemandPt). unsigned_abs d.w) points.now ≤ 16000000 }
-    ensures lower { result.0 ≡ unwrap_or (fold (joined_at T.joined (lower_radius site)) None points.now) (pos 0) }
-    ensures upper { result.1 ≡ unwrap_or (fold (joined_at T.joined (upper_radius site)) None points.now) (pos 0) }
-    ensures lower_size { unsigned_abs result.0 ≤ 16000000 * (65536 * longest) }
-    ensures upper_size { unsigned_abs result.1 ≤ 16000000 * (65536 * longest) }
+    requires { sum_by (λ (d : DemandPt). unsigned_abs d.w) points.now ≤ WEIGHT_LIMIT }
+    ensures lower { result.0
+        ≡ unwrap_or (fold (joined_at T.joined (lower_radius site)) None points.now) (pos 0) }
+    ensures upper { result.1
+        ≡ unwrap_or (fold (joined_at T.joined (upper_radius site)) None points.now) (pos 0) }
+    ensures lower_size { unsigned_abs result.0 ≤ WEIGHT_LIMIT * (65536 * longest) }
+    ensures upper_size { unsigned_abs result.1 ≤ WEIGHT_LIMIT * (65536 * longest) }
 {
     let mut lower = None;
     let mut upper = None;

@@ -18,7 +18,8 @@ pub use bounds::{coarse, fine};
 pub use costs::cost_of;
 pub use gap::reaches;
 pub use laws::{
-    coarse_is_below_fine, costs_are_ordered, costs_enclose, fine_is_a_bound,
+    coarse_is_below_fine, costs_are_ordered, costs_are_small, costs_enclose, fine_is_a_bound,
     quarters_are_bounded_higher,
 };
+pub use radii::fine_radius;
 pub use total::{MaxTotal, SumTotal, Total};

@@ -6,6 +6,7 @@ ghost use Rattle.siting_definitions.specs.Root as roots;
 ghost use Rattle.siting_definitions.specs.Point.{point_of};
 ghost use Rattle.siting_definitions.specs.Instance as instances;
 ghost use Rattle.siting_definitions.specs.Instance.{DemandPt};
+ghost use Rattle.siting_definitions.specs.declared.TheConstants.{CUTOFF_LIMIT};
 ghost use Rattle.siting_definitions.specs.Cost as costs;
 ghost use Rattle.siting_definitions.specs.Bounds as bounds;
 ghost use Rattle.dist_bounds.specs.Limits.{longest};
@@ -53,9 +54,9 @@ impl Radii for CoarseRadii {
     fn radius(&self, d: DemandPt) -> u64 {
         let place = place_of(d);
         if d.w > 0 {
-            capped(d.cutoff, COARSE_UNITS, floor_root(near2(self.0, place)))
+            capped_radius(d.cutoff, COARSE_UNITS, floor_root(near2(self.0, place)))
         } else {
-            capped(d.cutoff, COARSE_UNITS, ceil_root(far2(self.0, place)))
+            capped_radius(d.cutoff, COARSE_UNITS, ceil_root(far2(self.0, place)))
         }
     }
 }
@@ -72,12 +73,22 @@ impl Radii for FineRadii {
     ghost is_small = { lit≤ tt };
 
     fn radius(&self, d: DemandPt) -> u64 {
-        let place = place_of(d);
-        if d.w > 0 {
-            capped(d.cutoff, FINE_UNITS, fine_floor_root(near2(self.0, place)))
-        } else {
-            capped(d.cutoff, FINE_UNITS, fine_ceil_root(far2(self.0, place)))
-        }
+        fine_radius(self.0, d)
+    }
+}
+
+/// The radius of `d` in the fine bound of a square, in 1/65536 of a grid unit: the root of the least squared distance to
+/// the closed square, rounded down, where the point attracts, and that of the greatest, rounded up, where it repels, or
+/// the cutoff if that is less. It is below 2^55.
+pub fn fine_radius(sq: Square, d: DemandPt) -> u64
+    ensures value { result ≡ bounds.fine_radius sq d }
+    ensures size { result ≤ 65536 * longest }
+{
+    let place = place_of(d);
+    if d.w > 0 {
+        capped_radius(d.cutoff, FINE_UNITS, fine_floor_root(near2(sq, place)))
+    } else {
+        capped_radius(d.cutoff, FINE_UNITS, fine_ceil_root(far2(sq, place)))
     }
 }
 
@@ -89,8 +100,8 @@ pub(crate) fn enclosing_radii(site: Site, d: DemandPt) -> (u64, u64)
     ensures upper_size { result.1 ≤ 65536 * longest }
 {
     let (floor, ceil) = enclosing_roots(squared_distance(site, d));
-    let floor = capped(d.cutoff, FINE_UNITS, floor);
-    let ceil = capped(d.cutoff, FINE_UNITS, ceil);
+    let floor = capped_radius(d.cutoff, FINE_UNITS, floor);
+    let ceil = capped_radius(d.cutoff, FINE_UNITS, ceil);
     if d.w > 0 {
         (floor, ceil)
     } else {
@@ -146,9 +157,9 @@ fn enclosing_roots(squared: u128) -> (u64, u64)
 }
 
 /// The lesser of a radius and the cutoff, where there is one. `units` is how many of the radius's units make a length.
-fn capped(cutoff: Option<i32>, units: u64, radius: u64) -> u64
+fn capped_radius(cutoff: Option<i32>, units: u64, radius: u64) -> u64
     requires units { units ≤ 2 ^ 32 }
-    requires cutoff { MatchOption cutoff ⊤ (λ c. (pos 1 ≤ℤ c) × (c ≤ℤ pos 4000000)) }
+    requires cutoff { MatchOption cutoff ⊤ (λ c. (pos 1 ≤ℤ c) × (c ≤ℤ pos CUTOFF_LIMIT)) }
     ensures value { result ≡ bounds.capped cutoff units radius }
     ensures size { result ≤ radius }
 {

@@ -1,23 +1,24 @@
 //! From units of 1/65536 of a cost unit to cost units.
 
 ghost use Rattle.std.specs.Prelude.{◌≡◌, ◌*◌, ◌≤◌, unsigned_abs};
-ghost use Rattle.siting_definitions.specs.Integer.{round_down, round_up};
+ghost use Rattle.siting_definitions.specs.Integer as integers;
+ghost use Rattle.siting_definitions.specs.declared.TheConstants.{WEIGHT_LIMIT};
 ghost use Rattle.dist_bounds.specs.Limits.{longest};
 ghost use Rattle.objectives.specs.Limits.{IsCost};
 
 /// A total in units of 1/65536 of a cost unit, in cost units, rounded towards the lesser number.
-pub(crate) fn rounded_down(total: i128) -> i64
-    requires { unsigned_abs total ≤ 16000000 * (65536 * longest) }
-    ensures value { result ≡ round_down total }
+pub(crate) fn round_down(total: i128) -> i64
+    requires { unsigned_abs total ≤ WEIGHT_LIMIT * (65536 * longest) }
+    ensures value { result ≡ integers.round_down total }
     ensures size { IsCost result }
 {
     (total >> 16) as i64
 }
 
 /// A total in units of 1/65536 of a cost unit, in cost units, rounded towards the greater number.
-pub(crate) fn rounded_up(total: i128) -> i64
-    requires { unsigned_abs total ≤ 16000000 * (65536 * longest) }
-    ensures value { result ≡ round_up total }
+pub(crate) fn round_up(total: i128) -> i64
+    requires { unsigned_abs total ≤ WEIGHT_LIMIT * (65536 * longest) }
+    ensures value { result ≡ integers.round_up total }
     ensures size { IsCost result }
 {
     -((-total >> 16) as i64)

@@ -77,6 +77,26 @@ fn distance_beyond_a_cutoff(rt: HostRuntime) {
 }
 
 #[test]
+fn radii_to_a_square(rt: HostRuntime) {
+    // The square from (4, 0) to (8, 4), in lengths, of which each is 2^32 units of a radius.
+    let square = Square::of(262144, 0, 18);
+    assert_eq!(rt;
+        fine_radius(square, DemandPt::of(2, 2, 1, None)),
+        2 * 4294967296
+    );
+    assert_eq!(rt;
+        fine_radius(square, DemandPt::of(2, 2, 1, Some(1))),
+        4294967296
+    );
+    assert_eq!(rt; fine_radius(square, DemandPt::of(5, 1, 1, None)), 0);
+    // Its farthest corner is 3 lengths to the right and 4 above.
+    assert_eq!(rt;
+        fine_radius(square, DemandPt::of(5, 0, -1, None)),
+        5 * 4294967296
+    );
+}
+
+#[test]
 fn totals_step_by_step(rt: HostRuntime) {
     assert_eq!(rt; SumTotal::join(None, -3, 2), -6);
     assert_eq!(rt; SumTotal::join(Some(5), -3, 2), -1);

@@ -12,7 +12,7 @@ use Rattle.pool_core.specs.declared.pool.Pool.TheInside.{Inside}
 use Rattle.pool_core.specs.Job.{Job, IsJob}
 use Rattle.pool_core.specs.State.{State, Beginning, first_state, raised_count, root_entry, split_count}
 use Rattle.pool_core.proofs.Leasing.{beginning_is}
-use Rattle.pool_core.specs.Inside.{Fits, state_of}
+use Rattle.pool_core.specs.Pool.{PoolFits, state_of}
 
 -- a list of one element has no other order
 all_one : {X : Type 0} (x : X) (ys : List X) → length ys ≡ 1 → All (λ y. y ≡ x) ys → ys ≡ x ∷ []
@@ -20,6 +20,7 @@ all_one x [] h all = absurd (omega arith)
 all_one x (y ∷ []) h all = ap (λ z. z ∷ []) (all 0 y (omega arith))
 all_one x (y ∷ z ∷ zs) h all = absurd (omega arith)
 
+-- one element has one order
 pub one_order : {X : Type 0} (x : X) (ys : List X) → IsPermutation (x ∷ []) ys → ys ≡ x ∷ []
 one_order x ys p =
     all_one x ys (length_permutation (x ∷ []) ys p) (All-permutation (λ y. y ≡ x) (x ∷ []) ys p (All-cons (λ y. y ≡ x) x [] refl (λ k d l. absurd (omega arith))))
@@ -44,6 +45,7 @@ state_is : (j j' : Job) (waiting waiting' leased leased' : List Entry) (nodes no
     → let s : State = record { job = j; waiting = waiting; leased = leased; nodes = nodes; leases = leases; kept = kept; stop = stop; beginning = begun } in let t : State = record { job = j'; waiting = waiting'; leased = leased'; nodes = nodes'; leases = leases'; kept = kept'; stop = stop'; beginning = begun' } in s ≡ t
 state_is j j' waiting waiting' leased leased' nodes nodes' leases leases' kept kept' stop stop' begun begun' e f g h i k l m = cc
 
+-- what `begin` makes shows as the first state
 pub beginning_state : (j : Job) (b : Inside) → IsBeginning j b → state_of b ≡ first_state j
 beginning_state j b h =
     let nodes : b.log.nodes ≡ [] = ap (λ (l : LogView). l.nodes) h.log in
@@ -53,7 +55,8 @@ beginning_state j b h =
     h.job h.waiting h.leased nodes h.leases h.kept h.stop
     (beginning_is b.log.nodes none b.begun_nodes 0 b.begun_raised 0 b.begun_leases 0 nodes h.begun_nodes h.begun_raised h.begun_leases)
 
-pub beginning_fits : (j : Job) (b : Inside) → IsJob j → IsBeginning j b → Fits b
+-- what `begin` makes is a pool
+pub beginning_fits : (j : Job) (b : Inside) → IsJob j → IsBeginning j b → PoolFits b
 beginning_fits j b lawful h =
     let pool : b.job.pool ≡ j.pool = ap (λ (j : Job). j.pool) h.job in
     let budget : b.job.budget ≡ j.budget = ap (λ (j : Job). j.budget) h.job in
@@ -66,6 +69,7 @@ beginning_fits j b lawful h =
     let none_out : length b.leased.items ≡ 0 = ap length h.leased in
     let none_raised : raised_count b.leased.items ≡ 0 = ap raised_count h.leased in
     let begun : length (take b.begun_nodes b.log.nodes) ≡ 0 = ap (λ (ns : List Node). length (take b.begun_nodes ns)) nodes ∙ ap (λ (n : ℕ). length (take n (let ms : List Node = [] in ms))) h.begun_nodes in
+    let begun_splits : split_count (take b.begun_nodes b.log.nodes) ≡ 0 = ap (λ (ns : List Node). split_count (take b.begun_nodes ns)) nodes ∙ ap (λ (n : ℕ). split_count (take n (let ms : List Node = [] in ms))) h.begun_nodes in
     record {
       job = subst IsJob (sym h.job) lawful;
       counts = record {
@@ -82,4 +86,5 @@ beginning_fits j b lawful h =
       waiting_room = omega (arith, h.spare);
       leased_room = omega (arith, h.capacity);
       log_room = omega (arith, h.leases);
+      log_size = omega (arith, begun_splits, h.begun_leases);
     }

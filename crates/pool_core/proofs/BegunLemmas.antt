@@ -16,7 +16,7 @@ use Rattle.siting_definitions.specs.Bounds.{fine_of}
 use Rattle.siting_definitions.specs.Excluded.{is_excluded}
 use Rattle.siting_definitions.specs.Tree.{Tree, Leaf, Fits, preorder}
 use Rattle.siting_definitions.specs.Marks as marks
-use Rattle.siting_definitions.specs.Marks.{IsAtMost, leaf_mark, reaches, MarksFit, is_split, is_left}
+use Rattle.siting_definitions.specs.Marks.{IsAtMost, leaf_mark, reaches, MarksFit, is_split, is_open}
 use Rattle.siting_definitions.proofs.Integers.{le_refl_ℤ}
 use Rattle.objectives.proofs.CoarseLemmas.{coarse_of-le-fine_of}
 use Rattle.dyadic_square.proofs.Bag.{total, once, SameTotals, total-length, total-permutation, count_by-total, permutation_from_totals}
@@ -43,6 +43,7 @@ start_offered i None h = tt
 start_offered i (Some b) h = (b.0, h)
 
 -- ---- the first state
+-- a lawful job begins soundly
 pub first_pool : (j : Job) → IsLawful j → IsPoolOf j (first_state j)
 first_pool j lawful =
     let i = j.instance in
@@ -86,6 +87,7 @@ halves_by : {X : Type 0} (g : X → ℕ) (p : X → Bool) (x : X) (b : Bool) →
 halves_by g p x true = omega arith
 halves_by g p x false = omega arith
 
+-- a total over those that pass a test and those that don't
 pub total-halves : {X : Type 0} (g : X → ℕ) (p : X → Bool) → (xs : List X) → total g (filter p xs) + total g (filter (λ x. not (p x)) xs) ≡ total g xs
 total-halves g p [] = refl
 total-halves g p (x ∷ xs) =
@@ -142,7 +144,7 @@ leaf_says i gap u s =
 abbrev pub IsMarked : Instance → ℤ → Option ℤ → Node → Type 0
 IsMarked i gap u n = marks.MarkFits i gap u (tree_square n) n.mark
 
-closed-fits : (i : Instance) (gap : ℤ) (u : Option ℤ) (s : Square) (m : Mark) → is_left m ≡ false → marks.MarkFits i gap u (record { square = s; is_split = is_split m }) m → LoggedFits i gap u s m
+closed-fits : (i : Instance) (gap : ℤ) (u : Option ℤ) (s : Square) (m : Mark) → is_open m ≡ false → marks.MarkFits i gap u (record { square = s; is_split = is_split m }) m → LoggedFits i gap u s m
 closed-fits i gap u s (Split v) closed h = h
 closed-fits i gap u s Shut closed h = subst (LeafSays i gap u s) (sym h) (leaf_says i gap u s)
 closed-fits i gap u s (Bounded c) closed h = subst (LeafSays i gap u s) (sym h) (leaf_says i gap u s)
@@ -199,7 +201,8 @@ closed_counts ns =
       omega (arith, total-halves (λ (n : Node). once (split n)) is_left_open ns, count_by-total split (closed_nodes ns), count_by-total split ns),
     )
 
-waiting_count : (ns : List Node) (es : List Entry) → IsPermutation (filter is_left_open ns) (map left_of es) → length es ≡ left_count ns
+-- as many wait as are left open
+pub waiting_count : (ns : List Node) (es : List Entry) → IsPermutation (filter is_left_open ns) (map left_of es) → length es ≡ left_count ns
 waiting_count ns es h =
     sym (length-map es left_of) ∙ length-permutation (filter is_left_open ns) (map left_of es) h ∙ length-filter is_left_open ns
 
@@ -244,7 +247,7 @@ begun_costs j ns leases s lawful r b =
     let left : All P (map left_of s.waiting) =
     All-permutation P (filter is_left_open ns) (map left_of s.waiting) b.waiting (All-passed is_left_open P P (λ n yes h. h) ns marked) in
     let closed : All Q (closed_nodes ns) =
-    All-passed (λ n. not (is_left_open n)) P Q (λ n yes h. closed-fits i j.gap u n.square n.mark (not-true (is_left n.mark) yes) h) ns marked in
+    All-passed (λ n. not (is_left_open n)) P Q (λ n yes h. closed-fits i j.gap u n.square n.mark (not-true (is_open n.mark) yes) h) ns marked in
     record {
       job = lawful;
       waiting = All-weaker (λ e. P (left_of e)) (EntryFits i) (left-fits i j.gap u) s.waiting (All-unmap P left_of s.waiting left);
@@ -254,12 +257,13 @@ begun_costs j ns leases s lawful r b =
       least_is = start_offered i j.start lawful.job.start;
     }
 
+-- a pool that begins from the nodes of a finished tree begins soundly
 pub begun_pool : (j : Job) (ns : List Node) (leases : ℕ) (s : State) → IsLawful j → IsResumable j ns leases → IsBegunFrom j ns leases s → IsPoolOf j s
 begun_pool j ns leases s lawful r b = record {
   job = b.job;
   leased = b.leased;
   going = b.going;
   sound =
-      sound-parts (record { pool = s; least = start_cost j }) j (start_cost j) b.job refl (begun_consistent j ns leases s r b)
+      sound-parts (record { state = s; incumbent = start_cost j }) j (start_cost j) b.job refl (begun_consistent j ns leases s r b)
       (begun_costs j ns leases s lawful r b);
 }

@@ -6,6 +6,7 @@ use Rattle.std.proofs.lemmas.Bool.{true≢false}
 use Rattle.std.proofs.lemmas.Bool.Decides.{nat_tests}
 use Rattle.siting_definitions.specs.Excluded.{is_excluded}
 use Rattle.siting_definitions.specs.Marks.{is_split, reaches}
+use Rattle.siting_definitions.proofs.Totals.{count_by-append}
 use Rattle.dyadic_square.proofs.Bag.{once, total-append, total-length, total-permutation, count_by-total}
 use Rattle.discard_log.specs.declared.node.Node.{Node}
 use Rattle.bound_heap.specs.declared.entry.Entry.{Entry}
@@ -20,19 +21,18 @@ use Rattle.pool_core.specs.Machine.{Leases, Halts, Returns, is_kept, entries_fro
 use Rattle.pool_core.specs.Sound.{SearchCountsFit, StopFits}
 
 -- ---- counts of lists
+-- a list in another order is as long
 pub length-permutation : {X : Type 0} (xs ys : List X) → IsPermutation xs ys → length ys ≡ length xs
 length-permutation xs ys p = sym (total-length ys) ∙ total-permutation (λ _. 1) xs ys p ∙ total-length xs
 
+-- in another order as many elements pass a test
 pub count_by-permutation : {X : Type 0} (p : X → Bool) (xs ys : List X) → IsPermutation xs ys → count_by p ys ≡ count_by p xs
 count_by-permutation p xs ys h =
     count_by-total p ys ∙ total-permutation (λ x. once (p x)) xs ys h ∙ sym (count_by-total p xs)
 
+-- one element more
 pub count_by-cons : {X : Type 0} (p : X → Bool) (x : X) (xs : List X) → count_by p (x ∷ xs) ≡ once (p x) + count_by p xs
 count_by-cons p x xs = count_by-total p (x ∷ xs) ∙ ap (λ n. once (p x) + n) (sym (count_by-total p xs))
-
-pub count_by-append : {X : Type 0} (p : X → Bool) (xs ys : List X) → count_by p (xs ++ ys) ≡ count_by p xs + count_by p ys
-count_by-append p xs ys =
-    omega (arith, count_by-total p (xs ++ ys), count_by-total p xs, count_by-total p ys, total-append (λ x. once (p x)) xs ys)
 
 -- ---- what a step changes in the counts
 -- an entry of the leased comes back: entries join those that wait, nodes those that are logged, and parts the kept ones
@@ -63,6 +63,7 @@ leased_counts p e before after h =
 node_counts : (p : Node → Bool) (before added after : List Node) → after ≡ before ++ added → count_by p after ≡ count_by p before + count_by p added
 node_counts p before added after h = ap (count_by p) h ∙ count_by-append p before added
 
+-- what a return moves, in counts
 pub moves : (e : Entry) (seen : Option ℤ) (f : Finding) (before after : State) → Returns e seen f before after
     → Moves e (cond (is_kept before f) (e ∷ []) (entries_from e.square f)) (cond (is_kept before f) [] (nodes_from e.square seen f)) (cond (is_kept before f) 1 0) before after
 moves e seen f before after h =
@@ -198,6 +199,7 @@ pub record Leaves (e : Entry) (before after : State) : Type 0 where
   pub nodes : length after.nodes ≡ length before.nodes
   pub split : split_count after.nodes ≡ split_count before.nodes
 
+-- what a lease moves, in counts
 pub leaves_waiting : (e : Entry) (before after : State) → Leases e before after → Leaves e before after
 leaves_waiting e before after h = record {
   waiting = sym (length-permutation before.waiting (e ∷ after.waiting) h.waiting) ∙ omega arith;
@@ -213,6 +215,7 @@ leaves_waiting e before after h = record {
   split = ap split_count h.nodes;
 }
 
+-- a lease keeps the counts
 pub counts_lease : (e : Entry) (before after : State) → Leases e before after → SearchCountsFit before → SearchCountsFit after
 counts_lease e before after h fits =
     let m = leaves_waiting e before after h in
@@ -228,6 +231,7 @@ counts_lease e before after h fits =
     }
 
 -- ---- a halt
+-- a halt keeps the counts
 pub counts_halt : (before after : State) → Halts before after → SearchCountsFit before → SearchCountsFit after
 counts_halt before after h fits =
     rw h.halted
@@ -242,9 +246,11 @@ counts_halt before after h fits =
     })
 
 -- ---- stops
+-- the stop of a halt fits
 pub stop_halt : (before after : State) → Halts before after → StopFits after after.stop
 stop_halt before after h = rw h.halted (refl, h.spent)
 
+-- where a lease is given there is no stop
 pub stop_lease : (e : Entry) (before after : State) → Leases e before after → StopFits after after.stop
 stop_lease e before after h = rw (h.stop ∙ h.going) tt
 
@@ -294,6 +300,7 @@ stop_part e seen b before after true is m stop job begun more most fits =
 stop_part e seen b before after false is m stop job begun more most fits =
     rw stop (stop_made before after before.stop (made_says (is_some before.stop) before.job.pool (open_count before + 3) is).0)
 
+-- a return keeps what a stop says
 pub stop_return : (e : Entry) (seen : Option ℤ) (f : Finding) (before after : State) → Returns e seen f before after
     → ((later : List Node) × (before.nodes ≡ before.beginning.nodes ++ later)) → SearchCountsFit before → StopFits before before.stop → StopFits after after.stop
 stop_return e seen Excluded before after h begun counts fits =
@@ -309,9 +316,11 @@ stop_return e seen (Floor b) before after h begun counts fits =
     stop_node e _ before after refl (moves e seen (Floor b) before after h) h.job h.beginning h.stop fits
 
 -- ---- the size of the tree
+-- as many squares as the splits call for
 abbrev pub SizeFits : State → Type 0
 SizeFits s = length s.nodes + open_count s ≡ 1 + 4 * split_count s.nodes
 
+-- a lease keeps the number of squares
 pub size_lease : (e : Entry) (before after : State) → Leases e before after → SizeFits before → SizeFits after
 size_lease e before after h size =
     let m = leaves_waiting e before after h in
@@ -329,6 +338,7 @@ size_part e seen b before after false m size =
     let one = count_by-total (λ (n : Node). is_split n.mark) (nodes_from e.square seen (Part b)) in
     omega (arith, one, m.waiting, m.leased, m.nodes, m.split)
 
+-- a return keeps the number of squares and splits in step
 pub size_return : (e : Entry) (seen : Option ℤ) (f : Finding) (before after : State) → Returns e seen f before after → SizeFits before → SizeFits after
 size_return e seen Excluded before after h size = size_node e _ before after refl (moves e seen Excluded before after h) size
 size_return e seen (Bounded b) before after h size = size_node e _ before after refl (moves e seen (Bounded b) before after h) size
@@ -356,6 +366,7 @@ fresh_by e true raised fine coarse is h = tt
 fresh_by e false true fine coarse is h = h
 fresh_by e false false fine coarse is h = fresh_any e coarse is
 
+-- what is raised wasn't raised
 pub fresh_finding : (j : Job) (e : Entry) (seen : Option ℤ) → IsFreshRaise e (finding_of j e seen)
 unfolding finding_of
 fresh_finding j e seen =

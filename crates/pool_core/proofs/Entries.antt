@@ -5,6 +5,7 @@ use mathlib.Core.Bool.{beq}
 use Rattle.std.proofs.lemmas.Bool.Decides.{Decides-and, Decides-eqb, Decides-int_eq, Decides-like}
 use Rattle.bound_heap.specs.declared.entry.Entry.{Entry}
 
+-- the derived comparison of entries
 abbrev pub same_entry : Entry → Entry → Bool
 same_entry a b =
     (int_eq a.square.x b.square.x && (int_eq a.square.y b.square.y && eqb a.square.level b.square.level)) && (int_eq a.bound b.bound && beq a.raised b.raised)
@@ -34,6 +35,7 @@ entry_parts a b e = (
   (ap (λ (e : Entry). e.bound) e, ap (λ (e : Entry). e.raised) e),
 )
 
+-- it tells equal entries from others
 pub entry_decides : (a b : Entry) → Decides (same_entry a b) (a ≡ b)
 entry_decides a b =
     Decides-like (same_entry a b) (entry_is a b) (entry_parts a b)

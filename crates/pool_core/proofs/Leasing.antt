@@ -8,9 +8,9 @@ use Rattle.discard_log.specs.declared.node.Node.{Node}
 use Rattle.discard_log.specs.LogView.{LogView}
 use Rattle.pool_core.specs.declared.pool.Pool.TheInside.{Inside}
 use Rattle.pool_core.specs.Job.{Job, IsJob}
-use Rattle.pool_core.specs.State.{State, Beginning}
+use Rattle.pool_core.specs.State.{State, Beginning, split_count}
 use Rattle.pool_core.specs.Machine.{Leases}
-use Rattle.pool_core.specs.Inside.{Fits, state_of}
+use Rattle.pool_core.specs.Pool.{PoolFits, state_of}
 use Rattle.pool_core.proofs.CountsKept.{counts_lease, leaves_waiting, size_lease}
 
 -- what the code does with the fields of a pool
@@ -41,6 +41,7 @@ beginning_is m n i j raised raised' leases leases' e f g h =
     let by_leases : ℕ → Beginning = λ k. record { nodes = take j n; raised = raised'; leases = k } in
     ap by_nodes e ∙ ap by_count f ∙ ap by_raised g ∙ ap by_leases h
 
+-- what the code does is a lease
 pub leasing_step : (e : Entry) (a b : Inside) → IsLeasing e a b → Leases e (state_of a) (state_of b)
 leasing_step e a b h =
     let nodes : b.log.nodes ≡ a.log.nodes = ap (λ (l : LogView). l.nodes) h.log in
@@ -59,7 +60,8 @@ leasing_step e a b h =
       beginning = beginning_is b.log.nodes a.log.nodes b.begun_nodes a.begun_nodes b.begun_raised a.begun_raised b.begun_leases a.begun_leases nodes h.begun_nodes h.begun_raised h.begun_leases;
     }
 
-pub leasing_fits : (e : Entry) (a b : Inside) → IsLeasing e a b → Fits a → Fits b
+-- and leaves a pool
+pub leasing_fits : (e : Entry) (a b : Inside) → IsLeasing e a b → PoolFits a → PoolFits b
 leasing_fits e a b h fits =
     let step = leasing_step e a b h in
     let counts = counts_lease e (state_of a) (state_of b) step fits.counts in
@@ -67,6 +69,7 @@ leasing_fits e a b h fits =
     let pool : b.job.pool ≡ a.job.pool = ap (λ (j : Job). j.pool) h.job in
     let budget : b.job.budget ≡ a.job.budget = ap (λ (j : Job). j.budget) h.job in
     let room : b.log.spare ≡ a.log.spare = ap (λ (l : LogView). l.spare) h.log in
+    let begun_splits : split_count (take b.begun_nodes b.log.nodes) ≡ split_count (take a.begun_nodes a.log.nodes) = ap (λ n. split_count (take n b.log.nodes)) h.begun_nodes ∙ ap (λ (l : LogView). split_count (take a.begun_nodes l.nodes)) h.log in
     record {
       job = subst IsJob (sym h.job) fits.job;
       counts = counts;
@@ -75,6 +78,7 @@ leasing_fits e a b h fits =
       waiting_room = omega (arith, fits.waiting_room, h.spare, more.waiting);
       leased_room = omega (arith, fits.leased_room, h.capacity);
       log_room = omega (arith, fits.log_room, more.nodes, more.split, more.leased, h.leases, h.budget);
+      log_size = omega (arith, fits.log_size, more.nodes, begun_splits, h.begun_leases);
     }
 
 -- what was leased is among the leased

@@ -1,12 +1,12 @@
 pub mod CountsKept
-pub mod VerdictLemmas
-pub mod MarksKept
+mod VerdictLemmas
+mod MarksKept
 pub mod TreeKept
 pub mod SoundSteps
 pub mod BegunLemmas
 pub mod Entries
-pub mod SortOut
-pub mod Leasing
-pub mod Returning
-pub mod Beginnings
-pub mod Resumed
+mod SortOut
+mod Leasing
+mod Returning
+mod Beginnings
+mod Resumed

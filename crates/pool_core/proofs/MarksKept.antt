@@ -28,13 +28,16 @@ use Rattle.pool_core.specs.Sound.{EntryFits, LoggedFits, NodeFits}
 use Rattle.pool_core.proofs.VerdictLemmas.{FindingFits, reaches-true, reaches-false}
 
 -- ---- the least upper cost falls from u to v
+-- the incumbent may fall, and be found
 abbrev pub Falls : Option ℤ → Option ℤ → Type 0
 Falls u v = (z : ℤ) → IsAtMost u z → IsAtMost v z
 
+-- a number at most a is at most all above a
 pub at_most-more : (u : Option ℤ) (a b : ℤ) → a ≤ℤ b → IsAtMost u a → IsAtMost u b
 at_most-more None a b le h = h
 at_most-more (Some n) a b le h = le_trans_ℤ n a b h le
 
+-- a mark stays right where the incumbent falls
 pub mark-falls : (i : Instance) (gap : ℤ) (u v : Option ℤ) (s : Square) (m : Mark) → Falls u v → LoggedFits i gap u s m → LoggedFits i gap v s m
 mark-falls i gap u v s (Split None) falls h = record { level = h.level; open_square = h.open_square; seen = h.seen }
 mark-falls i gap u v s (Split (Some n)) falls h = record {
@@ -47,6 +50,7 @@ mark-falls i gap u v s (BoundedMark c) falls h = (h.0, h.1, falls (c +ℤ gap) h
 mark-falls i gap u v s (FloorMark b) falls h = h
 mark-falls i gap u v s (Left b) falls h = h
 
+-- marks stay right where the incumbent falls
 pub nodes-fall : (i : Instance) (gap : ℤ) (u v : Option ℤ) (ns : List Node) → Falls u v → All (NodeFits i gap u) ns → All (NodeFits i gap v) ns
 nodes-fall i gap u v ns falls h =
     All-weaker (NodeFits i gap u) (NodeFits i gap v) (λ n. mark-falls i gap u v n.square n.mark falls) ns h
@@ -88,6 +92,7 @@ one_node : (j : Job) (u : Option ℤ) (s : Square) (m : Mark) → LoggedFits j.i
 one_node j u s m h =
     All-cons (NodeFits j.instance j.gap u) (record { square = s; mark = m }) [] h (All-nil (NodeFits j.instance j.gap u))
 
+-- the node that a finding makes has a right mark
 pub nodes_from-fit : (j : Job) (e : Entry) (u seen : Option ℤ) (f : Finding) → IsLawful j → IsSeen j u seen → (is_part f ≡ true → MatchOption (centre_cost j.instance e.square) ⊤ (IsAtMost seen)) → FindingFits j e seen f → All (NodeFits j.instance j.gap u) (nodes_from e.square seen f)
 nodes_from-fit j e u seen Excluded lawful was centre h = one_node j u e.square Shut h
 nodes_from-fit j e u seen (Bounded c) lawful was centre h =
@@ -98,6 +103,7 @@ nodes_from-fit j e u seen (Part b) lawful was centre h =
     (record { level = h.1; open_square = h.0; seen = seen-fits j u seen e.square lawful was (centre refl) h.3 })
 nodes_from-fit j e u seen (Floor b) lawful was centre h = one_node j u e.square (FloorMark b) h
 
+-- the entries that a finding makes have right bounds
 pub entries_from-fit : (j : Job) (e : Entry) (seen : Option ℤ) (f : Finding) → FindingFits j e seen f → All (EntryFits j.instance) (entries_from e.square f)
 entries_from-fit j e seen Excluded h = All-nil (EntryFits j.instance)
 entries_from-fit j e seen (Bounded c) h = All-nil (EntryFits j.instance)
@@ -141,6 +147,7 @@ module _ (i : Instance) where
       cond_both (is_kept before f) (e ∷ []) (entries_from e.square f) (All (EntryFits i)) (λ _. All-cons (EntryFits i) e [] here (All-nil (EntryFits i))) (λ _. more) in
       All-permutation (EntryFits i) (news ++ before.waiting) after.waiting h.waiting (All-append (EntryFits i) news before.waiting fit waiting)
 
+-- of the nodes of a finding, those that are made have right marks
 pub nodes-fit : (i : Instance) (gap : ℤ) (u : Option ℤ) (e : Entry) (seen : Option ℤ) (f : Finding) (before after : State) → Returns e seen f before after → All (NodeFits i gap u) (nodes_from e.square seen f) → All (NodeFits i gap u) before.nodes → All (NodeFits i gap u) after.nodes
 nodes-fit i gap u e seen f before after h more nodes =
     let P = NodeFits i gap u in

@@ -21,10 +21,12 @@ use Rattle.pool_core.specs.declared.pool.Pool.TheInside.{Inside}
 use Rattle.pool_core.specs.Job.{Job, IsJob, job_root}
 use Rattle.pool_core.specs.State.{raised_count, split_count}
 use Rattle.pool_core.specs.Begun.{IsBegunFrom, IsResumable, closed_nodes, is_left_open, left_count, left_of}
-use Rattle.pool_core.specs.Inside.{Fits, state_of}
+use Rattle.pool_core.specs.Pool.{PoolFits, state_of}
+use Rattle.pool_core.proofs.BegunLemmas.{waiting_count}
 use Rattle.pool_core.proofs.CountsKept.{count_by-cons}
 
 -- ---- counts of nodes
+-- nodes are left open or closed
 pub closed_length : (ns : List Node) → length (closed_nodes ns) + left_count ns ≡ length ns
 closed_length ns =
     omega (arith, length-filter_both is_left_open (λ (n : Node). not (is_left_open n)) (λ n. refl) ns, length-filter is_left_open ns)
@@ -82,18 +84,16 @@ pub record IsBegun (j : Job) (ns : List Node) (leases : ℕ) (b : Inside) : Type
   pub begun_raised : b.begun_raised ≡ length b.waiting.entries
   pub begun_leases : b.begun_leases ≡ leases
 
-pub left_length : (ns : List Node) (es : List Entry) → IsPermutation (filter is_left_open ns) (map left_of es) → length es ≡ left_count ns
-left_length ns es h = omega (arith, length_permutation _ _ h, length-map es left_of, length-filter is_left_open ns)
-
 all_taken : (n : ℕ) (ms ns : List Node) → n ≡ length ns → ms ≡ ns → take n ms ≡ ns
 all_taken n ms ns e f = ap (take n) f ∙ ap (λ k. take k ns) e ∙ take-length ns
 
 begun_nodes-are : (j : Job) (ns : List Node) (leases : ℕ) (b : Inside) → IsBegun j ns leases b → take b.begun_nodes b.log.nodes ≡ closed_nodes ns
 begun_nodes-are j ns leases b h =
-    let left : length b.waiting.entries ≡ left_count ns = left_length ns b.waiting.entries h.waiting in
+    let left : length b.waiting.entries ≡ left_count ns = waiting_count ns b.waiting.entries h.waiting in
     let count : b.begun_nodes ≡ length (closed_nodes ns) = omega (arith, closed_length ns, h.begun_nodes) in
     all_taken b.begun_nodes b.log.nodes (closed_nodes ns) count h.nodes
 
+-- what `begin_from` makes shows as a state that begins from the nodes
 pub begun_state : (j : Job) (ns : List Node) (leases : ℕ) (b : Inside) → IsBegun j ns leases b → IsBegunFrom j ns leases (state_of b)
 begun_state j ns leases b h = record {
   job = h.job;
@@ -105,19 +105,21 @@ begun_state j ns leases b h = record {
   kept = h.kept;
   going = h.stop;
   begun_nodes = begun_nodes-are j ns leases b h;
-  begun_raised = h.begun_raised ∙ left_length ns b.waiting.entries h.waiting;
+  begun_raised = h.begun_raised ∙ waiting_count ns b.waiting.entries h.waiting;
   begun_leases = h.begun_leases;
 }
 
-pub begun_fits : (j : Job) (ns : List Node) (leases : ℕ) (b : Inside) → IsJob j → IsResumable j ns leases → IsBegun j ns leases b → Fits b
+-- what `begin_from` makes is a pool
+pub begun_fits : (j : Job) (ns : List Node) (leases : ℕ) (b : Inside) → IsJob j → IsResumable j ns leases → IsBegun j ns leases b → PoolFits b
 begun_fits j ns leases b lawful may h =
     let pool : b.job.pool ≡ j.pool = ap (λ (j : Job). j.pool) h.job in
     let budget : b.job.budget ≡ j.budget = ap (λ (j : Job). j.budget) h.job in
-    let left : length b.waiting.entries ≡ left_count ns = left_length ns b.waiting.entries h.waiting in
+    let left : length b.waiting.entries ≡ left_count ns = waiting_count ns b.waiting.entries h.waiting in
     let raised : raised_count b.waiting.entries ≡ length b.waiting.entries = all_raised b.waiting.entries h.raised in
     let closed : length b.log.nodes ≡ length (closed_nodes ns) = ap length h.nodes in
     let splits : split_count b.log.nodes ≡ split_count ns = ap split_count h.nodes ∙ closed_splits ns in
     let begun : length (take b.begun_nodes b.log.nodes) ≡ length (closed_nodes ns) = ap length (begun_nodes-are j ns leases b h) in
+    let begun_splits : split_count (take b.begun_nodes b.log.nodes) ≡ split_count ns = ap split_count (begun_nodes-are j ns leases b h) ∙ closed_splits ns in
     let none_out : length b.leased.items ≡ 0 = ap length h.leased in
     let none_raised : raised_count b.leased.items ≡ 0 = ap raised_count h.leased in
     let size : length ns ≡ 1 + 4 * split_count ns = nodes_size may.tree.0 (job_root j) ns may.tree.1 in
@@ -138,4 +140,5 @@ begun_fits j ns leases b lawful may h =
       waiting_room = omega (arith, h.waiting_room);
       leased_room = omega (arith, h.capacity);
       log_room = omega (arith, h.log_room, h.leases_are);
+      log_size = omega (arith, h.log_room, begun_splits, h.begun_leases);
     }

@@ -1,6 +1,7 @@
 -- A leased entry comes back: the step, and what a pool keeps.
 use Rattle.std.proofs.Common.{◌≡◌, ℕ, zero, suc, ◌+◌, ◌<◌, ◌≤◌, nat_lt, ◌==◌, Bool, true, false, cond, ◌&&◌, ◌||◌, is_some, ℤ, ◌+ℤ◌, [], ◌∷◌, ◌++◌, length, vec_capacity, take, Option, Some, refl, sym, ap, ◌∙◌, subst, arith}
 use Rattle.std.specs.List.Sorted.{IsPermutation}
+use Rattle.std.proofs.lemmas.Bool.{false≢true}
 use Rattle.std.proofs.lemmas.List.{take-append-le}
 use Rattle.std.proofs.lemmas.List.Sums.{count_by-le-length}
 use Rattle.siting_definitions.specs.Excluded.{is_excluded}
@@ -14,9 +15,9 @@ use Rattle.pool_core.specs.declared.verdict.Finding.TheVariants.{Excluded, Bound
 use Rattle.pool_core.specs.declared.pool.Pool.TheInside.{Inside}
 use Rattle.pool_core.specs.Job.{Job, IsJob}
 use Rattle.pool_core.specs.State.{State, open_count, split_count}
-use Rattle.pool_core.specs.Verdict.{finding_of}
+use Rattle.pool_core.specs.Verdict.{finding_of, is_part}
 use Rattle.pool_core.specs.Machine.{Returns, entries_from, first_stop, is_kept, nodes_from}
-use Rattle.pool_core.specs.Inside.{Fits, state_of}
+use Rattle.pool_core.specs.Pool.{PoolFits, state_of}
 use Rattle.pool_core.proofs.CountsKept.{IsFreshRaise, Moves, counts_return, fresh_finding, moves, size_return}
 use Rattle.pool_core.proofs.Leasing.{beginning_is}
 
@@ -37,9 +38,15 @@ pub record Did (e : Entry) (seen : Option ℤ) (f : Finding) (k : Bool) (a b : I
   pub begun_raised : b.begun_raised ≡ a.begun_raised
   pub begun_leases : b.begun_leases ≡ a.begun_leases
 
-pub did_step : (e : Entry) (seen : Option ℤ) (f : Finding) (k : Bool) (a b : Inside) → Did e seen f k a b → Fits a → Returns e seen f (state_of a) (state_of b)
+-- the nodes of the beginning stay
+begun_same : (e : Entry) (seen : Option ℤ) (f : Finding) (k : Bool) (a b : Inside) → Did e seen f k a b → PoolFits a → take a.begun_nodes b.log.nodes ≡ take a.begun_nodes a.log.nodes
+begun_same e seen f k a b h fits =
+    ap (take a.begun_nodes) h.nodes ∙ take-append-le a.begun_nodes a.log.nodes (cond k [] (nodes_from e.square seen f)) fits.begun
+
+-- what the code does is a return
+pub did_step : (e : Entry) (seen : Option ℤ) (f : Finding) (k : Bool) (a b : Inside) → Did e seen f k a b → PoolFits a → Returns e seen f (state_of a) (state_of b)
 did_step e seen f k a b h fits =
-    let same : take a.begun_nodes b.log.nodes ≡ take a.begun_nodes a.log.nodes = ap (take a.begun_nodes) h.nodes ∙ take-append-le a.begun_nodes a.log.nodes (cond k [] (nodes_from e.square seen f)) fits.begun in
+    let same = begun_same e seen f k a b h fits in
     let first = beginning_is b.log.nodes b.log.nodes b.begun_nodes a.begun_nodes b.begun_raised a.begun_raised b.begun_leases a.begun_leases refl h.begun_nodes h.begun_raised h.begun_leases in
     record {
       leased = h.leased;
@@ -60,7 +67,8 @@ few_nodes false e seen (Raise b) = omega arith
 few_nodes false e seen (Part b) = omega arith
 few_nodes false e seen (Floor b) = omega arith
 
-pub did_fits : (e : Entry) (seen : Option ℤ) (f : Finding) (k : Bool) (a b : Inside) → IsFreshRaise e f → Did e seen f k a b → Fits a → Fits b
+-- and leaves a pool
+pub did_fits : (e : Entry) (seen : Option ℤ) (f : Finding) (k : Bool) (a b : Inside) → IsFreshRaise e f → Did e seen f k a b → PoolFits a → PoolFits b
 did_fits e seen f k a b fresh h fits =
     let entries = cond k (e ∷ []) (entries_from e.square f) in
     let added = cond k [] (nodes_from e.square seen f) in
@@ -70,6 +78,7 @@ did_fits e seen f k a b fresh h fits =
     let splits : split_count added ≤ length added = count_by-le-length (λ (n : Node). is_split n.mark) added in
     let pool : b.job.pool ≡ a.job.pool = ap (λ (j : Job). j.pool) h.job in
     let budget : b.job.budget ≡ a.job.budget = ap (λ (j : Job). j.budget) h.job in
+    let begun_splits : split_count (take b.begun_nodes b.log.nodes) ≡ split_count (take a.begun_nodes a.log.nodes) = ap (λ n. split_count (take n b.log.nodes)) h.begun_nodes ∙ ap split_count (begun_same e seen f k a b h fits) in
     record {
       job = subst IsJob (sym h.job) fits.job;
       counts = counts_return e seen f (state_of a) (state_of b) fresh step fits.counts;
@@ -78,25 +87,27 @@ did_fits e seen f k a b fresh h fits =
       waiting_room = omega (arith, fits.waiting_room, h.spare, more.waiting);
       leased_room = omega (arith, fits.leased_room, h.capacity);
       log_room = omega (arith, fits.log_room, h.log_spare, more.nodes, more.split, more.leased, h.leases);
+      log_size = omega (arith, fits.log_size, h.log_spare, more.nodes, begun_splits, h.begun_leases);
     }
 
 -- ---- what was given, and what comes back
-pub carry : (e e' : Entry) (seen : Option ℤ) (f f' : Finding) (s s' t : State) → e ≡ e' → f' ≡ f → s ≡ s' → Returns e seen f s t → Returns e' seen f' s' t
-carry e e' seen f f' s s' t same finding before h =
-    subst (λ (x : Entry). Returns x seen f' s' t) same
-    (subst (λ (x : Finding). Returns e seen x s' t) (sym finding) (subst (λ (x : State). Returns e seen f x t) before h))
+-- a return of what was given is one of what it shows
+pub carry : (e e' : Entry) (seen : Option ℤ) (f : Finding) (s s' t : State) → e ≡ e' → s ≡ s' → Returns e seen f s t → Returns e' seen f s' t
+carry e e' seen f s s' t same before h =
+    subst (λ (x : Entry). Returns x seen f s' t) same (subst (λ (x : State). Returns e seen f x t) before h)
 
-pub fresh_given : (j : Job) (e e' : Entry) (seen : Option ℤ) (f f' : Finding) → e ≡ e' → f' ≡ f → f' ≡ finding_of j e' seen → IsFreshRaise e f
-fresh_given j e e' seen f f' same finding verdict =
-    subst (λ (x : Finding). IsFreshRaise e x) finding
-    (subst (λ (x : Finding). IsFreshRaise e x) (sym verdict) (subst (λ (x : Entry). IsFreshRaise x (finding_of j e' seen)) (sym same) (fresh_finding j e' seen)))
+-- a finding that is the one on an entry raises only what wasn't raised
+pub fresh_given : (j : Job) (e e' : Entry) (seen : Option ℤ) (f : Finding) → e ≡ e' → f ≡ finding_of j e' seen → IsFreshRaise e f
+fresh_given j e e' seen f same verdict =
+    subst (λ (x : Finding). IsFreshRaise e x) (sym verdict) (subst (λ (x : Entry). IsFreshRaise x (finding_of j e' seen)) (sym same) (fresh_finding j e' seen))
 
 -- a part is kept exactly where the code finds it closed
-pub closed_is : (a : Inside) (s : State) (b : ℤ) (count : ℕ) (closed k : Bool) → state_of a ≡ s → count ≡ open_count s → closed ≡ (is_some a.stop || nat_lt a.job.pool (count + 3)) → closed ≡ k → is_kept (state_of a) (Part b) ≡ k
-closed_is a s b count closed k view counted tested is =
+pub closed_is : (a : Inside) (s : State) (f : Finding) (count : ℕ) (closed k : Bool) → state_of a ≡ s → count ≡ open_count s → closed ≡ (is_part f && (is_some a.stop || nat_lt a.job.pool (count + 3))) → closed ≡ k → is_kept (state_of a) f ≡ k
+closed_is a s f count closed k view counted tested is =
     let n : count ≡ open_count (state_of a) = counted ∙ ap open_count (sym view) in
-    sym (ap (λ (m : ℕ). is_some a.stop || nat_lt a.job.pool (m + 3)) n) ∙ sym tested ∙ is
+    sym (ap (λ (m : ℕ). is_part f && (is_some a.stop || nat_lt a.job.pool (m + 3))) n) ∙ sym tested ∙ is
 
+-- the stop is the first one, by the open squares
 pub stop_is : (a : Inside) (s : State) (count : ℕ) (stop : Stop) → state_of a ≡ s → count ≡ open_count s → Some stop ≡ first_stop a.stop (PoolFull count) → Some stop ≡ first_stop a.stop (PoolFull (open_count (state_of a)))
 stop_is a s count stop view counted is =
     is ∙ ap (λ (m : ℕ). first_stop a.stop (PoolFull m)) (counted ∙ ap open_count (sym view))
@@ -117,6 +128,7 @@ either_level b true raised fine coarse level f g h = cc
 either_level b false true fine coarse level f g h = f h
 either_level b false false fine coarse level f g h = g h
 
+-- a square that is to be split has a level above 0
 pub part_level : (j : Job) (e : Entry) (seen : Option ℤ) (b : ℤ) → finding_of j e seen ≡ Part b → 0 < e.square.level
 unfolding finding_of
 part_level j e seen b h =
@@ -124,6 +136,14 @@ part_level j e seen b h =
     (fine_level b e.bound (reaches seen (e.bound +ℤ j.gap)) e.square.level)
     (coarse_level b _ _ e.square.level _ _ (λ e. cc)) h
 
-pub level_given : (j : Job) (e e' : Entry) (seen : Option ℤ) (b : ℤ) (f' : Finding) → e ≡ e' → f' ≡ Part b → f' ≡ finding_of j e' seen → 0 < e.square.level
-level_given j e e' seen b f' same finding verdict =
-    subst (λ (x : Entry). 0 < x.square.level) (sym same) (part_level j e' seen b (sym verdict ∙ finding))
+found_level : (j : Job) (e : Entry) (seen : Option ℤ) (f : Finding) → f ≡ finding_of j e seen → is_part f ≡ true → 0 < e.square.level
+found_level j e seen Excluded is part = absurd (false≢true part)
+found_level j e seen (Bounded b) is part = absurd (false≢true part)
+found_level j e seen (Raise b) is part = absurd (false≢true part)
+found_level j e seen (Part b) is part = part_level j e seen b (sym is)
+found_level j e seen (Floor b) is part = absurd (false≢true part)
+
+-- a square on which the finding is to split it has a level above 0
+pub level_given : (j : Job) (e e' : Entry) (seen : Option ℤ) (f : Finding) → e ≡ e' → f ≡ finding_of j e' seen → is_part f ≡ true → 0 < e.square.level
+level_given j e e' seen f same verdict part =
+    subst (λ (x : Entry). 0 < x.square.level) (sym same) (found_level j e' seen f verdict part)

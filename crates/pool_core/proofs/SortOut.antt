@@ -8,7 +8,7 @@ use Rattle.std.proofs.lemmas.List.Sorted.{All-permutation, IsPermutation-map, Is
 use Rattle.std.proofs.lemmas.List.Sums.{count_by_more_yes, length-filter, sum_by-take-le}
 use Rattle.siting_definitions.specs.declared.Mark.{Mark}
 use Rattle.siting_definitions.specs.declared.Mark.TheVariants.{Split, Shut, Bounded, Floor, Left}
-use Rattle.siting_definitions.specs.Marks.{is_left}
+use Rattle.siting_definitions.specs.Marks.{is_open}
 use Rattle.siting_definitions.specs.Square.{Square}
 use Rattle.discard_log.specs.declared.node.Node.{Node}
 use Rattle.bound_heap.specs.declared.entry.Entry.{Entry}
@@ -40,7 +40,7 @@ pub record AreSortedOut (ns : List Node) (i : ℕ) (entries : List Entry) (logge
   pub raised : All (λ (e : Entry). e.raised ≡ true) entries
   pub nodes : logged ≡ closed_nodes (take i ns)
 
-not_left : (m : Mark) → ((b : ℤ) → m ≡ Left b → ⊥) → is_left m ≡ false
+not_left : (m : Mark) → ((b : ℤ) → m ≡ Left b → ⊥) → is_open m ≡ false
 not_left (Split v) other = refl
 not_left Shut other = refl
 not_left (Bounded b) other = refl
@@ -50,13 +50,15 @@ not_left (Left b) other = absurd (other b refl)
 left_node : (n : Node) (b : ℤ) → n.mark ≡ Left b → record { square = n.square; mark = Left b } ≡ n
 left_node n b is = ap (λ (m : Mark). let k : Node = record { square = n.square; mark = m } in k) (sym is)
 
+-- an entry that waits, raised, with this bound
 abbrev pub raised_at : Square → ℤ → Entry
 raised_at s b = record { square = s; bound = b; raised = true }
 
+-- a node left open is let wait
 pub lefts_more : (ns : List Node) (i : ℕ) (n : Node) (b bound : ℤ) (entries after : List Entry) (logged : List Node) → i < length ns → n ≡ get_or ns i n → n.mark ≡ Left b → bound ≡ b
     → IsPermutation (raised_at n.square bound ∷ entries) after → AreSortedOut ns i entries logged → AreSortedOut ns (i + 1) after logged
 lefts_more ns i n b bound entries after logged below at is same pushed h =
-    let left : is_left_open n ≡ true = ap is_left is in
+    let left : is_left_open n ≡ true = ap is_open is in
     let raised : All (λ (e : Entry). e.raised ≡ true) (raised_at n.square bound ∷ entries) = All-cons (λ (e : Entry). e.raised ≡ true) (raised_at n.square bound) entries refl h.raised in
     let node : left_of (raised_at n.square bound) ≡ n = ap (λ (z : ℤ). left_of (raised_at n.square z)) same ∙ left_node n b is in
     let moved = IsPermutation-map left_of (raised_at n.square bound ∷ entries) after pushed in
@@ -66,6 +68,7 @@ lefts_more ns i n b bound entries after logged below at is same pushed h =
       nodes = h.nodes ∙ sym (filter_no (λ (n : Node). not (is_left_open n)) ns i n below at (ap not left));
     }
 
+-- another node is logged
 pub others_more : (ns : List Node) (i : ℕ) (n : Node) (entries : List Entry) (logged after : List Node) → i < length ns → n ≡ get_or ns i n → ((b : ℤ) → n.mark ≡ Left b → ⊥)
     → after ≡ logged ++ n ∷ [] → AreSortedOut ns i entries logged → AreSortedOut ns (i + 1) entries after
 others_more ns i n entries logged after below at other added h =
@@ -79,10 +82,11 @@ others_more ns i n entries logged after below at other added h =
 -- there is room for one more
 pub left_room : (ns : List Node) (i : ℕ) (n : Node) (b : ℤ) (entries : List Entry) (logged : List Node) → i < length ns → n ≡ get_or ns i n → n.mark ≡ Left b → AreSortedOut ns i entries logged → length entries < left_count ns
 left_room ns i n b entries logged below at is h =
-    let left : is_left_open n ≡ true = ap is_left is in
+    let left : is_left_open n ≡ true = ap is_open is in
     let counted : length (map left_of entries) ≡ length (filter is_left_open (take i ns)) = length_permutation _ _ h.waiting in
     omega (arith, fewer_pass is_left_open ns i n below at left, length-filter is_left_open ns, length-map entries left_of)
 
+-- there is room to log it
 pub other_room : (ns : List Node) (i : ℕ) (n : Node) (entries : List Entry) (logged : List Node) → i < length ns → n ≡ get_or ns i n → ((b : ℤ) → n.mark ≡ Left b → ⊥) → AreSortedOut ns i entries logged → length logged < length (closed_nodes ns)
 other_room ns i n entries logged below at other h =
     let closed : is_left_open n ≡ false = not_left n.mark other in

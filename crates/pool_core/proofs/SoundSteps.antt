@@ -19,6 +19,7 @@ use Rattle.pool_core.proofs.TreeKept.{tree_lease, tree_return}
 use Rattle.pool_core.proofs.CountsKept.{counts_lease, counts_halt, counts_return, stop_lease, stop_halt, stop_return, fresh_finding}
 
 -- ---- what doesn't speak of bounds and costs
+-- the nodes of the beginning come first
 abbrev pub HasBegun : State → Type 0
 HasBegun s = (later : List Node) × (s.nodes ≡ s.beginning.nodes ++ later)
 
@@ -33,6 +34,7 @@ still_begun : (before after : State) → after.nodes ≡ before.nodes → after.
 still_begun before after nodes beginning begun =
     (begun.0, nodes ∙ begun.1 ∙ ap (λ (b : Beginning). b.nodes ++ begun.0) (sym beginning))
 
+-- a lease keeps what doesn't speak of costs
 pub consistent_lease : (e : Entry) (before after : State) → Leases e before after → IsConsistent before → IsConsistent after
 consistent_lease e before after h c = record {
   tree = tree_lease e before after h c.tree;
@@ -41,6 +43,7 @@ consistent_lease e before after h c = record {
   begun = still_begun before after h.nodes h.beginning c.begun;
 }
 
+-- a halt keeps what doesn't speak of costs
 pub consistent_halt : (before after : State) → Halts before after → IsConsistent before → IsConsistent after
 consistent_halt before after h c = record {
   tree = subst AreTree (sym h.halted) c.tree;
@@ -69,9 +72,10 @@ pub record Costs (j : Job) (u : Option ℤ) (s : State) : Type 0 where
   pub start : MatchOption (start_cost j) ⊤ (IsAtMost u)
   pub least_is : MatchOption u ⊤ (λ c. (z : Pt) × IsOffer j.instance z c)
 
-pub sound-parts : (w : Search) (j : Job) (u : Option ℤ) → w.pool.job ≡ j → w.least ≡ u → IsConsistent w.pool → Costs j u w.pool → IsSound w
+-- soundness of its two parts
+pub sound-parts : (w : Search) (j : Job) (u : Option ℤ) → w.state.job ≡ j → w.incumbent ≡ u → IsConsistent w.state → Costs j u w.state → IsSound w
 sound-parts w j u job least consistent costs =
-    let c = subst₂ (λ (k : Job) (v : Option ℤ). Costs k v w.pool) (sym job) (sym least) costs in
+    let c = subst₂ (λ (k : Job) (v : Option ℤ). Costs k v w.state) (sym job) (sym least) costs in
     record {
       job = c.job;
       consistent = consistent;
@@ -83,49 +87,52 @@ sound-parts w j u job least consistent costs =
     }
 
 -- ---- the events
+-- a lease keeps soundness
 pub sound_lease : (e : Entry) (before after : Search) → Step before (Lease e) after → IsSound before → IsSound after
 sound_lease e before after h sound =
-    let i = before.pool.job.instance in
-    sound-parts after before.pool.job before.least h.0.job h.1 (consistent_lease e before.pool after.pool h.0 sound.consistent)
+    let i = before.state.job.instance in
+    sound-parts after before.state.job before.incumbent h.0.job h.1 (consistent_lease e before.state after.state h.0 sound.consistent)
     (record {
       job = sound.job;
-      waiting = left-fits i e before.pool after.pool h.0 sound.waiting;
-      leased = leased-fits i e before.pool after.pool h.0 sound.waiting sound.leased;
-      nodes = subst (All (NodeFits i before.pool.job.gap before.least)) (sym h.0.nodes) sound.nodes;
+      waiting = left-fits i e before.state after.state h.0 sound.waiting;
+      leased = leased-fits i e before.state after.state h.0 sound.waiting sound.leased;
+      nodes = subst (All (NodeFits i before.state.job.gap before.incumbent)) (sym h.0.nodes) sound.nodes;
       start = sound.start;
       least_is = sound.least_is;
     })
 
+-- a halt keeps soundness
 pub sound_halt : (before after : Search) → Step before Halt after → IsSound before → IsSound after
 sound_halt before after h sound =
-    let i = before.pool.job.instance in
+    let i = before.state.job.instance in
     let waiting = ap (λ (s : State). s.waiting) h.0.halted in
     let leased = ap (λ (s : State). s.leased) h.0.halted in
     let nodes = ap (λ (s : State). s.nodes) h.0.halted in
-    sound-parts after before.pool.job before.least (ap (λ (s : State). s.job) h.0.halted) h.1 (consistent_halt before.pool after.pool h.0 sound.consistent)
+    sound-parts after before.state.job before.incumbent (ap (λ (s : State). s.job) h.0.halted) h.1 (consistent_halt before.state after.state h.0 sound.consistent)
     (record {
       job = sound.job;
       waiting = subst (All (EntryFits i)) (sym waiting) sound.waiting;
       leased = subst (All (EntryFits i)) (sym leased) sound.leased;
-      nodes = subst (All (NodeFits i before.pool.job.gap before.least)) (sym nodes) sound.nodes;
+      nodes = subst (All (NodeFits i before.state.job.gap before.incumbent)) (sym nodes) sound.nodes;
       start = sound.start;
       least_is = sound.least_is;
     })
 
+-- a return keeps soundness
 pub sound_return : (e : Entry) (seen : Option ℤ) (before after : Search) → Step before (Return e seen) after → IsSound before → IsSound after
 sound_return e seen before after h sound =
-    let j = before.pool.job in
+    let j = before.state.job in
     let i = j.instance in
     let f = finding_of j e seen in
-    let here = entry-fits i e seen f before.pool after.pool h.1 sound.leased in
+    let here = entry-fits i e seen f before.state after.state h.1 sound.leased in
     let fits = finding-fits j e seen sound.job.job.instance here in
-    let more = nodes_from-fit j e before.least seen f sound.job h.0.seen_is h.0.centre fits in
-    sound-parts after j before.least h.1.job h.2 (consistent_return e seen before.pool after.pool fits h.1 sound.consistent)
+    let more = nodes_from-fit j e before.incumbent seen f sound.job h.0.seen_is h.0.centre fits in
+    sound-parts after j before.incumbent h.1.job h.2 (consistent_return e seen before.state after.state fits h.1 sound.consistent)
     (record {
       job = sound.job;
-      waiting = waiting-fits i e seen f before.pool after.pool h.1 here (entries_from-fit j e seen f fits) sound.waiting;
-      leased = still-fit i e seen f before.pool after.pool h.1 sound.leased;
-      nodes = nodes-fit i j.gap before.least e seen f before.pool after.pool h.1 more sound.nodes;
+      waiting = waiting-fits i e seen f before.state after.state h.1 here (entries_from-fit j e seen f fits) sound.waiting;
+      leased = still-fit i e seen f before.state after.state h.1 sound.leased;
+      nodes = nodes-fit i j.gap before.incumbent e seen f before.state after.state h.1 more sound.nodes;
       start = sound.start;
       least_is = sound.least_is;
     })
@@ -136,7 +143,7 @@ start_falls None u v falls h = tt
 start_falls (Some z) u v falls h = falls z h
 
 -- a state stays sound where the least upper cost falls to that of an offer
-pub sound-falls : (s : State) (u v : Option ℤ) → Falls u v → MatchOption v ⊤ (λ c. (z : Pt) × IsOffer s.job.instance z c) → IsSound (record { pool = s; least = u }) → IsSound (record { pool = s; least = v })
+pub sound-falls : (s : State) (u v : Option ℤ) → Falls u v → MatchOption v ⊤ (λ c. (z : Pt) × IsOffer s.job.instance z c) → IsSound (record { state = s; incumbent = u }) → IsSound (record { state = s; incumbent = v })
 sound-falls s u v falls offered sound = record {
   job = sound.job;
   consistent = sound.consistent;
@@ -156,19 +163,22 @@ lesser_offered i None v z old new = (z, new)
 lesser_offered i (Some n) v z old new =
     cond_both (int_lt v n) v n (λ c. (y : Pt) × IsOffer i y c) (λ _. (z, new)) (λ _. old)
 
+-- an offer keeps soundness
 pub sound_offer : (z : Pt) (before after : Search) → Step before (Offer z) after → IsSound before → IsSound after
 sound_offer z before after h sound =
-    let u = lesser before.least (Some h.0) in
-    subst₂ (λ (s : State) (v : Option ℤ). IsSound (record { pool = s; least = v })) (sym h.2) (sym h.3)
-    (sound-falls before.pool before.least u (lesser_falls before.least h.0) (lesser_offered before.pool.job.instance before.least h.0 z sound.least_is h.1) sound)
+    let u = lesser before.incumbent (Some h.0) in
+    subst₂ (λ (s : State) (v : Option ℤ). IsSound (record { state = s; incumbent = v })) (sym h.2) (sym h.3)
+    (sound-falls before.state before.incumbent u (lesser_falls before.incumbent h.0) (lesser_offered before.state.job.instance before.incumbent h.0 z sound.least_is h.1) sound)
 
 -- ---- any event, and every run
+-- each event keeps soundness
 pub sound_step : (event : Event) (before after : Search) → Step before event after → IsSound before → IsSound after
 sound_step (Lease e) before after h sound = sound_lease e before after h sound
 sound_step Halt before after h sound = sound_halt before after h sound
 sound_step (Offer z) before after h sound = sound_offer z before after h sound
 sound_step (Return e seen) before after h sound = sound_return e seen before after h sound
 
+-- a run keeps soundness
 pub sound_run : (events : List Event) (before after : Search) → Run before events after → IsSound before → IsSound after
 sound_run [] before after h sound = subst IsSound (sym h) sound
 sound_run (event ∷ events) before after h sound =

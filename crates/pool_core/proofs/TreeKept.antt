@@ -19,16 +19,20 @@ use Rattle.pool_core.specs.Sound.{AreTree}
 use Rattle.pool_core.proofs.VerdictLemmas.{FindingFits}
 
 -- ---- totals over the squares of a state
+-- a total over a mapped list
 pub total-map : {X Y : Type 0} (f : Y → ℕ) (g : X → Y) → (xs : List X) → total f (map g xs) ≡ total (λ x. f (g x)) xs
 total-map f g [] = refl
 total-map f g (x ∷ xs) = ap (λ n. f (g x) + n) (total-map f g xs)
 
+-- a total over the squares of entries
 abbrev pub total_entries : (TreeSquare → ℕ) → List Entry → ℕ
 total_entries f es = total (λ (e : Entry). f (entry_square e)) es
 
+-- a total over the squares of nodes
 abbrev pub total_nodes : (TreeSquare → ℕ) → List Node → ℕ
 total_nodes f ns = total (λ (n : Node). f (tree_square n)) ns
 
+-- a total over the squares of a state
 pub total-squares : (f : TreeSquare → ℕ) (s : State) → total f (squares_of s) ≡ total_entries f s.waiting + total_entries f s.leased + total_nodes f s.nodes
 total-squares f s =
     omega (
@@ -45,6 +49,7 @@ total-squares f s =
 abbrev pub AreTreeOf : Square → List TreeSquare → Type 0
 AreTreeOf root squares = (t : Tree) × Fits t root.level × IsPermutation squares (preorder t root)
 
+-- squares of a tree in another order
 pub tree-same : (root : Square) (xs ys : List TreeSquare) → SameTotals ys xs → AreTreeOf root xs → AreTreeOf root ys
 tree-same root xs ys same tree = (
   tree.0,
@@ -52,6 +57,7 @@ tree-same root xs ys same tree = (
   IsPermutation-trans ys xs (preorder tree.0 root) (permutation_from_totals same_tree_square tree_square_decides ys xs same) tree.2,
 )
 
+-- a leaf that is split leaves a tree
 pub tree-cut : (root q : Square) (xs ys : List TreeSquare) → 0 < q.level → Contains xs (leaf_at q) → ((f : TreeSquare → ℕ) → total f ys + f (leaf_at q) ≡ total f xs + gained f q) → AreTreeOf root xs → AreTreeOf root ys
 tree-cut root q xs ys above at totals tree =
     let cut = cut_leaf tree.0 root q above tree.1 (Contains-permutation xs (preorder tree.0 root) (leaf_at q) tree.2 at) in
@@ -59,6 +65,7 @@ tree-cut root q xs ys above at totals tree =
     (cut.0, cut.1.fits, permutation_from_totals same_tree_square tree_square_decides ys (preorder cut.0 root) same)
 
 -- ---- the steps
+-- a lease keeps the tree
 pub tree_lease : (e : Entry) (before after : State) → Leases e before after → AreTree before → AreTree after
 tree_lease e before after h tree =
     let same : SameTotals (squares_of after) (squares_of before) = λ f.
@@ -133,6 +140,7 @@ tree_part e seen b before after false is h above tree =
     at_job before after h.job
     (tree-cut (job_root before.job) e.square (squares_of before) (squares_of after) above (leased_square e before after.leased h.leased) totals tree)
 
+-- a return keeps or grows the tree
 pub tree_return : (e : Entry) (seen : Option ℤ) (finding : Finding) (before after : State) → FindingFits before.job e seen finding → Returns e seen finding before after → AreTree before → AreTree after
 tree_return e seen Excluded before after fits h tree = tree_unmoved e seen Excluded before after h (λ f. omega arith) tree
 tree_return e seen (Bounded b) before after fits h tree = tree_unmoved e seen (Bounded b) before after h (λ f. omega arith) tree
@@ -141,6 +149,7 @@ tree_return e seen (Part b) before after fits h tree = tree_part e seen b before
 tree_return e seen (Floor b) before after fits h tree = tree_unmoved e seen (Floor b) before after h (λ f. omega arith) tree
 
 -- ---- tiling
+-- the leaves of a tree tile its root
 pub tree-tiles : (s : State) → AreTree s → Tiles (leaves (squares_of s)) (job_root s.job)
 tree-tiles s tree p =
     let root = job_root s.job in

@@ -22,6 +22,7 @@ pub reaches-true : (u : Option ℤ) (b : ℤ) → reaches u b ≡ true → IsAtM
 reaches-true None b h = absurd (false≢true h)
 reaches-true (Some n) b h = int_le-true n b h
 
+-- a cost that isn't reached is above
 pub reaches-false : (n b : ℤ) → reaches (Some n) b ≡ false → b <ℤ n
 reaches-false n b h = int_le-false n b h
 

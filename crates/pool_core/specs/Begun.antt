@@ -2,15 +2,15 @@
 use Rattle.std.specs.Prelude.{◌≡◌, ℕ, ◌≤◌, Bool, true, List, [], map, filter, not, count_by, length, All, None, IsPermutation}
 use Rattle.siting_definitions.specs.declared.Mark.TheVariants.{Left}
 use Rattle.siting_definitions.specs.Tree.{Tree, preorder}
-use Rattle.siting_definitions.specs.Marks.{AreMarks, is_left}
+use Rattle.siting_definitions.specs.Marks.{AreMarks, is_open}
 use Rattle.discard_log.specs.declared.node.Node.{Node}
-use Rattle.discard_log.specs.Nodes.{tree_square}
+use Rattle.discard_log.specs.Nodes.{mark_of, tree_square}
 use Rattle.bound_heap.specs.declared.entry.Entry.{Entry}
 use Rattle.pool_core.specs.Job.{Job, job_root, start_cost}
 use Rattle.pool_core.specs.State.{State, split_count}
 
 abbrev pub is_left_open : Node → Bool
-is_left_open n = is_left n.mark
+is_left_open n = is_open n.mark
 
 -- how many of the nodes are left open
 abbrev pub left_count : List Node → ℕ
@@ -24,10 +24,12 @@ closed_nodes ns = filter (λ (n : Node). not (is_left_open n)) ns
 abbrev pub left_of : Entry → Node
 left_of e = record { square = e.square; mark = Left e.bound }
 
--- The nodes are a tree of the root in preorder with the finished marks for the start's upper cost, no more of them are left open than
--- may be, and the leases are a number that may have been given for them.
+-- The nodes are a tree of the root in preorder with the finished marks for the start's upper cost,
+-- no more of them are left open than may be, and the leases are a number that may have been given
+-- for them.
 pub record IsResumable (j : Job) (ns : List Node) (leases : ℕ) : Type 0 where
-  pub tree : (t : Tree) × (map tree_square ns ≡ preorder t (job_root j)) × AreMarks j.instance j.gap (start_cost j) t (job_root j) (map (λ (n : Node). n.mark) ns)
+  pub tree : (t : Tree) × (map tree_square ns ≡ preorder t (job_root j))
+      × AreMarks j.instance j.gap (start_cost j) t (job_root j) (map mark_of ns)
   pub open_most : left_count ns ≤ j.pool
   pub budget : leases ≤ j.budget
   pub at_most_nodes : leases ≤ length ns

@@ -1,9 +1,11 @@
 pub mod Job
-pub mod JobInside
+pub mod JobFields
 pub mod Verdict
 pub mod State
 pub mod Machine
 pub mod Sound
+pub mod Seats
+pub mod Best
 pub mod Begun
-pub mod Inside
-pub mod Answers
+pub mod Pool
+pub mod PoolAnswers

@@ -1,5 +1,5 @@
 -- The machine: which events may follow a state, and what each does.
-use Rattle.std.specs.Prelude.{◌≡◌, ◌+◌, ◌<◌, nat_lt, ℤ, ◌≤ℤ◌, Bool, true, false, cond, ◌&&◌, ◌||◌, is_some, List, [], ◌∷◌, ◌++◌, map, length, All, IsPermutation, Option, Some, None, MatchOption, ⊤}
+use Rattle.std.specs.Prelude.{◌≡◌, ◌+◌, ◌<◌, nat_lt, ℤ, ◌≤ℤ◌, Bool, true, false, if◌then◌else◌, ◌&&◌, ◌||◌, is_some, List, [], ◌∷◌, ◌++◌, map, length, All, IsPermutation, Option, Some, None, MatchOption, ⊤}
 use Rattle.siting_definitions.specs.declared.Mark.TheVariants.{Split, Shut, Bounded as BoundedMark, Floor as FloorMark}
 use Rattle.siting_definitions.specs.Point.{Pt}
 use Rattle.siting_definitions.specs.Square.{Square, quarters}
@@ -49,7 +49,8 @@ abbrev pub entries_from : Square → Finding → List Entry
 entries_from s Excluded = []
 entries_from s (Bounded b) = []
 entries_from s (Raise b) = record { square = s; bound = b; raised = true } ∷ []
-entries_from s (Part b) = map (λ (q : Square). record { square = q; bound = b; raised = false }) (quarters s)
+entries_from s (Part b) =
+    map (λ (q : Square). record { square = q; bound = b; raised = false }) (quarters s)
 entries_from s (Floor b) = []
 
 -- whether a part isn't made: there is a stop, or no room for three more open squares
@@ -62,26 +63,34 @@ first_stop None stop = Some stop
 first_stop (Some first) stop = Some first
 
 -- A leased entry comes back with a finding. A part that isn't made leaves it waiting as it was.
-pub record Returns (e : Entry) (seen : Option ℤ) (finding : Finding) (before after : State) : Type 0 where
+pub record Returns (e : Entry) (seen : Option ℤ) (finding : Finding) (before after : State)
+    : Type 0 where
   pub leased : IsPermutation before.leased (e ∷ after.leased)
-  pub waiting : IsPermutation (cond (is_kept before finding) (e ∷ []) (entries_from e.square finding) ++ before.waiting) after.waiting
-  pub nodes : after.nodes ≡ before.nodes ++ cond (is_kept before finding) [] (nodes_from e.square seen finding)
-  pub kept : after.kept ≡ before.kept + cond (is_kept before finding) 1 0
-  pub stop : after.stop ≡ cond (is_kept before finding) (first_stop before.stop (PoolFull (open_count before))) before.stop
+  pub waiting : IsPermutation
+      ((if is_kept before finding then e ∷ [] else entries_from e.square finding) ++ before.waiting)
+      after.waiting
+  pub nodes : after.nodes
+      ≡ before.nodes ++ (if is_kept before finding then [] else nodes_from e.square seen finding)
+  pub kept : after.kept ≡ before.kept + (if is_kept before finding then 1 else 0)
+  pub stop : after.stop
+      ≡ (if is_kept before finding then first_stop before.stop (PoolFull (open_count before))
+      else before.stop)
   pub job : after.job ≡ before.job
   pub leases : after.leases ≡ before.leases
   pub beginning : after.beginning ≡ before.beginning
 
--- v is a number of the incumbent that was seen before it fell to u; none is seen only where the job has no start
+-- v is a number of the incumbent that was seen before it fell to u; none is seen only where the job
+-- has no start
 abbrev pub IsSeen : Job → Option ℤ → Option ℤ → Type 0
 IsSeen j u None = j.start ≡ None
 IsSeen j u (Some v) = IsAtMost u v × IsNoneOrAtLeast (start_cost j) v
 
--- What may be seen when an entry comes back with a finding: a number of the incumbent, and where the square is to be split and has
--- a centre site, one that is at most the upper cost of that site.
+-- What may be seen when an entry comes back with a finding: a number of the incumbent, and where
+-- the square is to be split and has a centre site, one that is at most the upper cost of that site.
 pub record MayReturn (e : Entry) (seen : Option ℤ) (w : Search) : Type 0 where
-  pub seen_is : IsSeen w.pool.job w.least seen
-  pub centre : is_part (finding_of w.pool.job e seen) ≡ true → MatchOption (centre_cost w.pool.job.instance e.square) ⊤ (IsAtMost seen)
+  pub seen_is : IsSeen w.state.job w.incumbent seen
+  pub centre : is_part (finding_of w.state.job e seen) ≡ true
+      → MatchOption (centre_cost w.state.job.instance e.square) ⊤ (IsAtMost seen)
 
 pub data Event : Type 0 where
   Lease : Entry → Event
@@ -89,14 +98,20 @@ pub data Event : Type 0 where
   Offer : Pt → Event
   Return : Entry → Option ℤ → Event
 
--- An offer of a permitted site lowers the least upper cost to its own. The other events leave the least as it is.
+-- An offer of a permitted site lowers the incumbent to its own upper cost. The other events leave
+-- the incumbent as it is.
 abbrev pub Step : Search → Event → Search → Type 0
-Step before (Lease e) after = Leases e before.pool after.pool × (after.least ≡ before.least)
-Step before Halt after = Halts before.pool after.pool × (after.least ≡ before.least)
+Step before (Lease e) after =
+    Leases e before.state after.state × (after.incumbent ≡ before.incumbent)
+Step before Halt after =
+    Halts before.state after.state × (after.incumbent ≡ before.incumbent)
 Step before (Offer z) after =
-    (cost : ℤ) × IsOffer before.pool.job.instance z cost × (after.pool ≡ before.pool) × (after.least ≡ lesser before.least (Some cost))
+    (cost : ℤ) × IsOffer before.state.job.instance z cost × (after.state ≡ before.state)
+    × (after.incumbent ≡ lesser before.incumbent (Some cost))
 Step before (Return e seen) after =
-    MayReturn e seen before × Returns e seen (finding_of before.pool.job e seen) before.pool after.pool × (after.least ≡ before.least)
+    MayReturn e seen before
+    × Returns e seen (finding_of before.state.job e seen) before.state after.state
+    × (after.incumbent ≡ before.incumbent)
 
 -- each event in turn, from the state that the one before left
 abbrev pub Run : Search → List Event → Search → Type 0

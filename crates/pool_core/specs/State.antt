@@ -9,13 +9,15 @@ use Rattle.bound_heap.specs.declared.entry.Entry.{Entry}
 use Rattle.pool_core.specs.declared.stop.Stop.{Stop}
 use Rattle.pool_core.specs.Job.{Job, job_root}
 
--- what a state was made with: its nodes, how many raised squares waited, and how many leases had been given
+-- what a state was made with: its nodes, how many raised squares waited, and how many leases had
+-- been given
 pub record Beginning : Type 0 where
   pub nodes : List Node
   pub raised : ℕ
   pub leases : ℕ
 
--- The open squares wait or are leased. `leases` counts the leases given, and `kept` the parts that were found and not made.
+-- The open squares wait or are leased. `leases` counts the leases given, and `kept` the parts that
+-- were found and not made.
 pub record State : Type 0 where
   pub job : Job
   pub waiting : List Entry
@@ -26,10 +28,11 @@ pub record State : Type 0 where
   pub stop : Option Stop
   pub beginning : Beginning
 
--- a search: a state, and the least upper cost of the sites that were offered, if there is one
+-- a search: a state, and the incumbent, which is the least upper cost of the sites that were
+-- offered, if there is one
 pub record Search : Type 0 where
-  pub pool : State
-  pub least : Option ℤ
+  pub state : State
+  pub incumbent : Option ℤ
 
 abbrev pub open_count : State → ℕ
 open_count s = length s.waiting + length s.leased
@@ -53,7 +56,8 @@ abbrev pub raised_count : List Entry → ℕ
 raised_count es = count_by (λ (e : Entry). e.raised) es
 
 abbrev pub root_entry : Job → Entry
-root_entry j = record { square = job_root j; bound = coarse_of j.instance (job_root j); raised = false }
+root_entry j =
+    record { square = job_root j; bound = coarse_of j.instance (job_root j); raised = false }
 
 -- the state in which a job begins: its root waits with the coarse bound
 abbrev pub first_state : Job → State

@@ -1,12 +1,13 @@
 //! Giving a leased square back.
 
-ghost use Rattle.std.specs.Prelude.{◌≡◌, ◌+◌, ◌<◌, ◌≤◌, nat_lt, ◌||◌, false, is_some, Some, [], ◌∷◌, ◌++◌, length, vec_capacity, slice_index_or, Contains, IsPermutation};
+ghost use Rattle.std.specs.Prelude.{◌≡◌, ◌+◌, ◌<◌, ◌≤◌, nat_lt, ◌&&◌, ◌||◌, true, false, is_some, Some, [], ◌∷◌, ◌++◌, length, vec_capacity, slice_index_or, Contains, IsPermutation};
 ghost use Rattle.siting_definitions.specs.Square.{quarter_of};
 ghost use Rattle.pool_core.specs.declared.stop.Stop.TheVariants as stops;
 ghost use Rattle.pool_core.specs.declared.verdict.Finding.TheVariants as findings;
-ghost use Rattle.pool_core.specs.Verdict.{finding_of};
-ghost use Rattle.pool_core.specs.Machine.{Returns, entries_from, first_stop};
-ghost use Rattle.pool_core.specs.Answers.{given_of};
+ghost use Rattle.pool_core.specs.Verdict.{finding_of, is_part};
+ghost use Rattle.pool_core.specs.Machine.{Returns, entries_from, first_stop, nodes_from};
+ghost use Rattle.pool_core.specs.PoolAnswers as pool_answers;
+ghost use Rattle.pool_core.specs.PoolAnswers.{given_of};
 
 use crate::job::Job;
 use crate::lease::Lease;
@@ -43,49 +44,37 @@ impl Pool {
         let square = entry.square;
         let count = self.open_count();
         take_out(&mut self.leased, &entry);
-        match verdict.finding {
-            Finding::Excluded => {
-                add_node(&mut self.log, square, Mark::Shut);
-                Given::Logged
-            }
-            Finding::Bounded(bound) => {
-                add_node(&mut self.log, square, Mark::Bounded(bound));
-                Given::Logged
-            }
-            Finding::Floor(bound) => {
-                add_node(&mut self.log, square, Mark::Floor(bound));
-                Given::Logged
-            }
-            Finding::Raise(bound) => {
-                self.waiting.push(Entry {
-                    square,
-                    bound,
-                    raised: true,
-                });
-                Given::Raised
-            }
-            Finding::Part(bound) => {
-                if is_closed(self.stop, &self.job, count) {
-                    self.waiting.push(entry);
-                    self.kept += 1;
-                    self.stop = Some(earlier(self.stop, count));
-                    Given::Kept
-                } else {
-                    wait_quarters(&mut self.waiting, square, bound);
-                    add_node(&mut self.log, square, Mark::Split(verdict.seen));
-                    Given::Parted
-                }
-            }
+        if is_kept(self.stop, &self.job, count, verdict.finding) {
+            self.waiting.push(entry);
+            self.kept += 1;
+            self.stop = Some(earlier(self.stop, count));
+            return Given::Kept;
         }
+        wait_found(&mut self.waiting, square, verdict.finding);
+        log_found(&mut self.log, square, verdict.seen, verdict.finding);
+        given_by(verdict.finding)
     }
 }
 
-/// Whether nothing more is split: there is a stop, or so many squares are open that there is no room for three more.
-fn is_closed(stop: Option<Stop>, job: &Job, count: u32) -> bool
+/// Whether a part isn't made: there is a stop, or so many squares are open that there is no room for three more.
+fn is_kept(stop: Option<Stop>, job: &Job, count: u32, finding: Finding) -> bool
     requires { count ≤ job.now.pool }
-    ensures { result ≡ (is_some stop || nat_lt job.now.pool (count + 3)) }
+    ensures { result ≡ (is_part finding && (is_some stop || nat_lt job.now.pool (count + 3))) }
 {
-    stop.is_some() || job.pool < count + 3
+    matches!(finding, Finding::Part(_)) && (stop.is_some() || job.pool < count + 3)
+}
+
+/// What becomes of a square by a finding, where a part is made.
+fn given_by(finding: Finding) -> Given
+    ensures { result ≡ pool_answers.given_by finding }
+{
+    match finding {
+        Finding::Excluded => Given::Logged,
+        Finding::Bounded(_) => Given::Logged,
+        Finding::Floor(_) => Given::Logged,
+        Finding::Raise(_) => Given::Raised,
+        Finding::Part(_) => Given::Parted,
+    }
 }
 
 /// The stop, or where there is none, that for want of room where so many squares are open.
@@ -98,6 +87,21 @@ fn earlier(stop: Option<Stop>, count: u32) -> Stop
     }
 }
 
+/// Logs the node that a finding makes of a square, if it makes one, after `seen` was seen.
+fn log_found(log: &mut Log, square: Square, seen: Option<i64>, finding: Finding)
+    requires { 0 < log.old.spare }
+    ensures nodes { log.new.nodes ≡ log.old.nodes ++ nodes_from square seen finding }
+    ensures spare { log.new.spare + length (nodes_from square seen finding) ≡ log.old.spare }
+{
+    match finding {
+        Finding::Excluded => add_node(log, square, Mark::Shut),
+        Finding::Bounded(bound) => add_node(log, square, Mark::Bounded(bound)),
+        Finding::Floor(bound) => add_node(log, square, Mark::Floor(bound)),
+        Finding::Part(_) => add_node(log, square, Mark::Split(seen)),
+        Finding::Raise(_) => {}
+    }
+}
+
 /// Adds a square with its mark to the log.
 fn add_node(log: &mut Log, square: Square, mark: Mark)
     requires { 0 < log.old.spare }
@@ -107,11 +111,34 @@ fn add_node(log: &mut Log, square: Square, mark: Mark)
     log.push(Node { square, mark });
 }
 
+/// Adds to those that wait what a finding lets wait: the square with its fine bound, its quarters, or nothing.
+fn wait_found(waiting: &mut Heap, square: Square, finding: Finding)
+    requires level { is_part finding ≡ true → 0 < square.level }
+    requires room { length (entries_from square finding) ≤ waiting.old.spare }
+    ensures entries { IsPermutation (entries_from square finding ++ waiting.old.entries)
+        waiting.new.entries }
+    ensures spare { waiting.new.spare + length (entries_from square finding) ≡ waiting.old.spare }
+{
+    match finding {
+        Finding::Raise(bound) => waiting.push(Entry {
+            square,
+            bound,
+            raised: true,
+        }),
+        Finding::Part(bound) => wait_quarters(waiting, square, bound),
+        Finding::Excluded => {}
+        Finding::Bounded(_) => {}
+        Finding::Floor(_) => {}
+    }
+}
+
 /// Adds the four quarters of a square, with this bound in cost units, to those that wait.
 fn wait_quarters(waiting: &mut Heap, square: Square, bound: i64)
     requires level { 0 < square.level }
     requires room { 4 ≤ waiting.old.spare }
-    ensures entries { IsPermutation (entries_from square (findings.Part bound) ++ waiting.old.entries) waiting.new.entries }
+    ensures entries { IsPermutation
+        (entries_from square (findings.Part bound) ++ waiting.old.entries)
+        waiting.new.entries }
     ensures spare { waiting.new.spare + 4 ≡ waiting.old.spare }
 {
     wait_quarter(waiting, square, 0, bound);
@@ -125,7 +152,10 @@ fn wait_quarter(waiting: &mut Heap, square: Square, i: u8, bound: i64)
     requires level { 0 < square.level }
     requires number { i < 4 }
     requires room { 0 < waiting.old.spare }
-    ensures entries { IsPermutation (record { square = quarter_of square i; bound = bound; raised = false } ∷ waiting.old.entries) waiting.new.entries }
+    ensures entries { IsPermutation
+        (record { square = quarter_of square i; bound = bound; raised = false }
+        ∷ waiting.old.entries)
+        waiting.new.entries }
     ensures spare { waiting.new.spare + 1 ≡ waiting.old.spare }
 {
     waiting.push(Entry {
@@ -141,12 +171,12 @@ fn take_out(leased: &mut Vec<Entry>, entry: &Entry)
     ensures items { IsPermutation leased.old.items (entry.now ∷ leased.new.items) }
     ensures capacity { vec_capacity leased.new ≡ vec_capacity leased.old }
 {
-    let place = place_of(leased.as_slice(), entry);
-    leased.swap_remove(place);
+    let index = index_of(leased.as_slice(), entry);
+    leased.swap_remove(index);
 }
 
-/// The place of an entry in a list that holds it.
-fn place_of(entries: &[Entry], entry: &Entry) -> usize
+/// The index of an entry in a list that holds it.
+fn index_of(entries: &[Entry], entry: &Entry) -> usize
     requires { Contains entries.now entry.now }
     ensures within { result < length entries.now }
     ensures value { entry.now ≡ slice_index_or entries.now result entry.now }

@@ -28,13 +28,14 @@ pub struct Job {
 
 impl Model for Job {
     ghost use Rattle.pool_core.specs.Job as jobs;
-    ghost use Rattle.pool_core.specs.JobInside.{JobFits};
 
     ghost Value = { jobs.Job };
 
-    ghost view = { λ a. record { instance = a.instance; gap = a.gap; budget = a.budget; pool = a.pool; start = a.start } };
+    ghost use Rattle.pool_core.specs.JobFields.{job_of, JobFits};
 
-    ghost invariant = { λ a. JobFits (record { instance = a.instance; gap = a.gap; budget = a.budget; pool = a.pool; start = a.start }) a.root };
+    ghost view = { job_of };
+
+    ghost invariant = { JobFits };
 }
 
 /// A copy is the same job. It takes memory, so it may fail.
@@ -63,8 +64,20 @@ impl Job {
         pool: u32,
         start: Option<(Site, i64)>,
     ) -> Job
-        requires { IsJob (record { instance = instance; gap = gap; budget = budget; pool = pool; start = start }) }
-        ensures { result ≡ record { instance = instance; gap = gap; budget = budget; pool = pool; start = start } }
+        requires { IsJob (record {
+          instance = instance;
+          gap = gap;
+          budget = budget;
+          pool = pool;
+          start = start;
+        }) }
+        ensures { result ≡ record {
+          instance = instance;
+          gap = gap;
+          budget = budget;
+          pool = pool;
+          start = start;
+        } }
     {
         let root = instance.root();
         Job {

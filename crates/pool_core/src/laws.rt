@@ -14,11 +14,14 @@ ghost use Rattle.pool_core.specs.Sound.{IsPoolOf, IsSound};
 /// sound, and what waits, what is leased and the logged squares that aren't split tile the root.
 pub fn every_run_is_sound()
     ensures first { (j : Job) → IsLawful j → IsPoolOf j (first_state j) }
-    ensures sound { (before after : Search) (events : List Event) → IsSound before → Run before events after → IsSound after }
-    ensures tiles { (w : Search) → IsSound w → Tiles (leaves (squares_of w.pool)) (job_root w.pool.job) }
+    ensures sound { (before after : Search) (events : List Event)
+        → IsSound before → Run before events after → IsSound after }
+    ensures tiles { (w : Search) → IsSound w
+        → Tiles (leaves (squares_of w.state)) (job_root w.state.job) }
 {}
 
 /// A pool that begins from the nodes of a finished tree begins in a sound state.
 pub fn a_begun_pool_is_sound()
-    ensures { (j : Job) (nodes : List Node) (leases : ℕ) (s : State) → IsLawful j → IsResumable j nodes leases → IsBegunFrom j nodes leases s → IsPoolOf j s }
+    ensures { (j : Job) (nodes : List Node) (leases : ℕ) (s : State)
+        → IsLawful j → IsResumable j nodes leases → IsBegunFrom j nodes leases s → IsPoolOf j s }
 {}

@@ -1,7 +1,7 @@
 //! Leasing a square.
 
 ghost use Rattle.std.specs.Prelude.{◌≡◌, ◌==◌, ◌<◌, ◌≤◌, ◌++◌, ◌∷◌, [], vec_len, vec_capacity};
-ghost use Rattle.pool_core.specs.Answers.{LeaseAnswers};
+ghost use Rattle.pool_core.specs.PoolAnswers.{LeaseAnswers};
 
 use crate::job::Job;
 use crate::pool::Pool;

@@ -64,11 +64,11 @@ impl Model for Pool {
 
     ghost Value = { State };
 
-    ghost use Rattle.pool_core.specs.Inside.{state_of, Fits};
+    ghost use Rattle.pool_core.specs.Pool.{state_of, PoolFits};
 
     ghost view = { state_of };
 
-    ghost invariant = { Fits };
+    ghost invariant = { PoolFits };
 }
 
 impl Pool {
@@ -160,7 +160,8 @@ impl Pool {
     pub fn into_nodes(self) -> NodeList
         requires { self.leased ≡ [] }
         ensures nodes { IsPermutation (self.nodes ++ map left_of self.waiting) result }
-        ensures preorder { (t : Tree) → Fits t (job_root self.job).level → IsPermutation (squares_of self) (preorder t (job_root self.job))
+        ensures preorder { (t : Tree) → Fits t (job_root self.job).level
+            → IsPermutation (squares_of self) (preorder t (job_root self.job))
             → map tree_square result ≡ preorder t (job_root self.job) }
     {
         let root = root_of(&self.job);
@@ -194,7 +195,8 @@ fn sort_out(nodes: &[Node], waiting: &mut Heap, log: &mut Log)
     requires log { length (closed_nodes nodes.now) ≤ log.old.spare }
     requires nothing_waits { waiting.old.entries ≡ [] }
     requires nothing_logged { log.old.nodes ≡ [] }
-    ensures waiting { IsPermutation (filter is_left_open nodes.now) (map left_of waiting.new.entries) }
+    ensures waiting { IsPermutation (filter is_left_open nodes.now)
+        (map left_of waiting.new.entries) }
     ensures raised { All (λ (e : entries.Entry). e.raised ≡ true) waiting.new.entries }
     ensures waiting_room { length waiting.new.entries + waiting.new.spare ≡ waiting.old.spare }
     ensures nodes { log.new.nodes ≡ closed_nodes nodes.now }

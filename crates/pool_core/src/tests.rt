@@ -3,11 +3,11 @@
 ghost use Rattle.std.specs.Prelude.{◌≡◌, ◌≤◌, [], IsTrue, Some};
 ghost use Rattle.siting_definitions.specs.Marks as marks;
 ghost use Rattle.siting_definitions.specs.Marks.{IsAtMost, IsCalledFor, IsNoneOrAtLeast};
-ghost use Rattle.pool_core.specs.Job as jobs;
 ghost use Rattle.pool_core.specs.Job.{start_cost};
 ghost use Rattle.pool_core.specs.Begun.{IsResumable};
 
 use super::*;
+use answer_model::leaf_mark;
 use candidate_sites::{centre_site, opening};
 use convex_region::Polygon;
 use discard_log::{Log, Mark, Node, NodeList};
@@ -87,42 +87,16 @@ fn one_split_by_hand(rt: HostRuntime) {
     assert_eq!(rt; pool.stop(), None);
 }
 
-/// The upper cost of a site, if there is one, in cost units.
-fn cost_in(best: &Option<(Site, i64)>) -> Option<i64>
-    ensures { result ≡ jobs.cost_in best.now }
-{
-    match *best {
-        None => None,
-        Some((_, upper)) => Some(upper),
-    }
-}
-
-/// The finished mark of a leaf.
-#[tactic(auto, unfolding(siting_definitions::specs::Marks::leaf_mark))]
-fn leaf_mark(job: &Job, square: Square) -> Mark
-    ensures { result ≡ marks.leaf_mark job.now.instance job.now.gap (start_cost job.now) square }
-{
-    if excluded(&job.instance, square) {
-        return Mark::Shut;
-    }
-    let bound = fine(&job.instance, square);
-    if reaches(cost_in(&job.start), bound, job.gap) {
-        return Mark::Bounded(bound);
-    }
-    if square.level == 0 {
-        Mark::Floor(bound)
-    } else {
-        Mark::Left(bound)
-    }
-}
-
 /// A leaf as a node.
 fn leaf(job: &Job, square: Square) -> Node
-    ensures { result ≡ record { square = square; mark = marks.leaf_mark job.now.instance job.now.gap (start_cost job.now) square } }
+    ensures { result ≡ record {
+      square = square;
+      mark = marks.leaf_mark job.now.instance job.now.gap (start_cost job.now) square;
+    } }
 {
     Node {
         square,
-        mark: leaf_mark(job, square),
+        mark: leaf_mark(&job.instance, job.gap, cost_in(&job.start), square),
     }
 }
 

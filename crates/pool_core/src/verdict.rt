@@ -83,7 +83,8 @@ fn judge_coarse(job: &Job, square: Square, bound: i64, seen: Option<i64>) -> Fin
 /// Whether a square is to be split before its fine bound is known: it can be split, and no fine bound would settle it.
 fn is_for_parting(job: &Job, square: Square, bound: i64, seen: Option<i64>) -> bool
     ensures { result ≡ (nat_lt 0 square.level
-        && not (marks.reaches seen (((bound +ℤ pos (weight job.now.instance.points)) -ℤ pos 1) +ℤ job.now.gap))) }
+        && not (marks.reaches seen
+        (((bound +ℤ pos (weight job.now.instance.points)) -ℤ pos 1) +ℤ job.now.gap))) }
 {
     square.level > 0 && !reaches_beyond(seen, bound, job.instance.weight(), job.gap)
 }

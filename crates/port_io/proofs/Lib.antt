@@ -1,4 +1,4 @@
-pub mod ListLemmas
+mod ListLemmas
 pub mod SourceLemmas
-pub mod SinkLemmas
+mod SinkLemmas
 pub mod PutLemmas

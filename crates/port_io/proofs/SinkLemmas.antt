@@ -25,9 +25,8 @@ told-then room bytes more (Some shown) c p q = rw (← told-all bytes shown (leb
 
 -- a sink took some bytes and then others
 pub Took-then : (room : Option ℕ) (a b c : Option (List ℕ)) (x y : List ℕ) → Took room a b x → Took room b c y → Took room a c (x ++ y)
-Took-then None None b c x y p q = tt
-Took-then (Some room) None None c x y p q = q
-Took-then (Some room) None (Some b) c x y p q = absurd (cc p)
+Took-then room None None c x y p q = q
+Took-then room None (Some b) c x y p q = absurd (cc p)
 Took-then None (Some a) None c x y p q = absurd (cc p)
 Took-then None (Some a) (Some b) c x y p q = cc (append_assoc a x y, p, q)
 Took-then (Some room) (Some a) b c x y p q = told-then room (a ++ x) y b c p q ∙ ap (told (Some room)) (append_assoc a x y)

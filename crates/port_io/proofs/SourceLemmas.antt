@@ -1,6 +1,7 @@
 -- Reads one after another.
-use Rattle.std.proofs.Common.{◌≡◌, ℕ, List, [], ◌++◌, take, Option, None, Some, IfSome, ◌↔◌, ◌∙◌, ap, append_assoc}
-use Rattle.std.specs.Io.KnownBytes.{Consumes}
+use Rattle.std.proofs.Common.{◌≡◌, ℕ, ◌+◌, ◌-◌, ◌≤◌, List, [], ◌++◌, length, length-append, take, Option, None, Some, IfSome, ◌↔◌, ◌∙◌, sym, ap, subst, arith, append_assoc}
+use Rattle.std.proofs.lemmas.List.{length-take-le}
+use Rattle.std.specs.Io.KnownBytes.{Consumes, Keeps}
 use Rattle.port_io.specs.Bytes.{HasRest}
 
 -- two reads one after another
@@ -27,3 +28,22 @@ at_end (Some a) (Some b) (Some c) x buf n z p q e =
     let nothing : b ≡ [] = e.0 z in
     let split = rw z at q in
     cc
+
+-- how many bytes there are with the first of those that a read gave
+pub length-read : (held buf : List ℕ) (count : ℕ) → count ≤ length buf → length (held ++ take count buf) ≡ length held + count
+length-read held buf count within = omega (arith, length-append held (take count buf), length-take-le count buf within)
+
+-- what holds of the number of bytes read holds of how many fewer are left
+pub by_lengths : (P : ℕ → Type 0) (a c : Option (List ℕ)) (x : List ℕ) → Consumes a c x → P (length x) → IfSome a (λ xs. IfSome c (λ ys. P (length xs - length ys)))
+by_lengths P None c x p holds = tt
+by_lengths P (Some a) None x p holds = absurd p
+by_lengths P (Some a) (Some c) x p holds =
+    let count : length a - length c ≡ length x = omega (arith, ap length p, length-append x c) in
+    subst P (sym count) holds
+
+-- a read that failed left what was left
+pub Consumes-kept : (a b c : Option (List ℕ)) (x : List ℕ) → Consumes a b x → Keeps b c → Consumes a c x
+Consumes-kept None b c x p q = tt
+Consumes-kept (Some a) None c x p q = absurd p
+Consumes-kept (Some a) (Some b) None x p q = absurd q
+Consumes-kept (Some a) (Some b) (Some c) x p q = p ∙ ap (λ ys. x ++ ys) (sym q)

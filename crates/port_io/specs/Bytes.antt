@@ -1,8 +1,10 @@
--- What reads and writes do to the bytes that a source has left and a sink has taken, where they are told.
-use Rattle.std.specs.Prelude.{⊤, ◌≡◌, ◌↔◌, ℕ, ◌≤◌, List, [], ◌++◌, length, take, Option, None, Some, IfSome, Result, MatchResult, nat_le, if◌then◌else◌}
+-- What reads and writes do to the bytes that a source has left and a sink has taken, where they are
+-- told.
+use Rattle.std.specs.Prelude.{◌≡◌, ◌↔◌, ℕ, ◌≤◌, List, [], ◌++◌, length, take, Option, None, Some, IfSome, Result, MatchResult, nat_le, if◌then◌else◌}
 use Rattle.std.specs.Io.KnownBytes.{Consumes, Keeps}
 
--- `read(buf)` gave the first n bytes left at `Ok(n)`, none exactly where nothing was left, and left all at `Err`; a source that tells goes on telling
+-- `read(buf)` gave the first n bytes left at `Ok(n)`, none exactly where nothing was left, and left
+-- all at `Err`; a source that tells goes on telling
 abbrev pub Reads : {E : Type 0} → Option (List ℕ) → Option (List ℕ) → Result ℕ E → List ℕ → Type 0
 Reads before after result buf = MatchResult result
     (λ n. Consumes before after (take n buf) × IfSome before (λ left. (n ≡ 0) ↔ (left ≡ [])))
@@ -18,25 +20,21 @@ abbrev pub told : Option ℕ → List ℕ → Option (List ℕ)
 told None bytes = Some bytes
 told (Some room) bytes = if nat_le (length bytes) room then Some bytes else None
 
--- The sink took these bytes: what it told before they follow, as far as its room goes. If it told nothing, one with a room tells nothing;
--- of one without, nothing is said.
+-- the sink took these bytes: they follow what it told before, as far as its room goes; one that
+-- told nothing tells nothing
 abbrev pub Took : Option ℕ → Option (List ℕ) → Option (List ℕ) → List ℕ → Type 0
 Took room (Some before) after bytes = after ≡ told room (before ++ bytes)
-Took (Some room) None after bytes = after ≡ None
-Took None None after bytes = ⊤
-
--- the sink took nothing: what it told it still tells
-abbrev pub TookNothing : Option ℕ → Option (List ℕ) → Option (List ℕ) → Type 0
-TookNothing room (Some before) after = after ≡ Some before
-TookNothing (Some room) None after = after ≡ None
-TookNothing None None after = ⊤
+Took room None after bytes = after ≡ None
 
 -- `write(piece)` took the first n bytes of the piece at `Ok(n)`, and nothing at `Err`
-abbrev pub Writes : {E : Type 0} → Option ℕ → Option (List ℕ) → Option (List ℕ) → Result ℕ E → List ℕ → Type 0
-Writes room before after result piece = MatchResult result (λ n. Took room before after (take n piece)) (λ _. TookNothing room before after)
+abbrev pub Writes : {E : Type 0} → Option ℕ → Option (List ℕ) → Option (List ℕ) → Result ℕ E
+    → List ℕ → Type 0
+Writes room before after result piece =
+    MatchResult result (λ n. Took room before after (take n piece)) (λ _. after ≡ before)
 
 -- the sink took some prefix of these bytes
-pub record TookFront (room : Option ℕ) (before after : Option (List ℕ)) (bytes : List ℕ) : Type 0 where
+pub record TookFront (room : Option ℕ) (before after : Option (List ℕ)) (bytes : List ℕ) :
+    Type 0 where
   pub count : ℕ
   pub within : count ≤ length bytes
   pub took : Took room before after (take count bytes)

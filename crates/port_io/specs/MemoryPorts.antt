@@ -1,10 +1,10 @@
 -- What contracts see of the ports in memory.
-use Rattle.std.specs.Prelude.{ℕ, ◌+◌, ◌==◌, Bool, List, Option, Some, min, option_and_then}
+use Rattle.std.specs.Prelude.{ℕ, ◌==◌, Bool, List, Option, Some, option_and_then}
 use Rattle.std.specs.List.{list_any}
-use Rattle.port_io.specs.Faults.{last_count}
 use Rattle.port_io.specs.Bytes.{told}
 
--- a `MemSource`: the bytes left, the most that a call gives, the numbers of the calls that fail, and the calls and the faults so far
+-- a `MemSource`: the bytes left, the most that a call gives, the numbers of the calls that fail,
+-- and the calls and the faults so far
 pub record MemSourceState : Type 0 where
   pub left : List ℕ
   pub chunk : ℕ
@@ -12,7 +12,8 @@ pub record MemSourceState : Type 0 where
   pub calls : ℕ
   pub faults : ℕ
 
--- a `MemSink`: the bytes taken, the most that it takes in all and in a call, the numbers of the calls that fail, and the calls and the faults so far
+-- a `MemSink`: the bytes taken, the most that it takes in all and in a call, the numbers of the
+-- calls that fail, and the calls and the faults so far
 pub record MemSinkState : Type 0 where
   pub bytes : List ℕ
   pub room : ℕ
@@ -29,10 +30,6 @@ pub record SureSinkState : Type 0 where
 -- the bytes that a `SureSink` tells
 abbrev pub sure_taken : SureSinkState → Option (List ℕ)
 sure_taken s = option_and_then (told (Some s.room)) s.bytes
-
--- one more, up to the last value of a count
-abbrev pub counted : ℕ → ℕ
-counted n = min (n + 1) last_count
 
 -- whether the call with this number is listed
 abbrev pub is_listed : List ℕ → ℕ → Bool

@@ -14,10 +14,13 @@ pub record SinkView : Type 0 where
   pub faults : ℕ
 
 -- the view of a sink with these members
-abbrev pub sink_view : {K : Type 0} → (K → Option ℕ) → (K → Option (List ℕ)) → (K → ℕ) → K → SinkView
-sink_view room taken faults sink = record { room = room sink; taken = taken sink; faults = faults sink }
+abbrev pub sink_view : {K : Type 0} → (K → Option ℕ) → (K → Option (List ℕ)) → (K → ℕ)
+    → K → SinkView
+sink_view room taken faults sink =
+    record { room = room sink; taken = taken sink; faults = faults sink }
 
--- an `Out`: the view of the sink behind it, the bytes that wait in its buffer, and whether a call on it failed
+-- an `Out`: the view of the sink behind it, the bytes that wait in its buffer, and whether a call
+-- on it failed
 pub record Stage : Type 0 where
   pub sink : SinkView
   pub waiting : List ℕ
@@ -25,7 +28,11 @@ pub record Stage : Type 0 where
 
 -- the stage of an `Out` over a sink with these members
 abbrev pub stage : {K : Type 0} → (K → Option ℕ) → (K → Option (List ℕ)) → (K → ℕ) → Out K → Stage
-stage room taken faults out = record { sink = sink_view room taken faults out.sink.now; waiting = out.waiting; failed = out.failed }
+stage room taken faults out = record {
+  sink = sink_view room taken faults out.sink.now;
+  waiting = out.waiting;
+  failed = out.failed;
+}
 
 -- the stage of a new `Out` over a sink
 abbrev pub fresh : SinkView → Stage
@@ -44,27 +51,43 @@ abbrev pub sink_of : {K : Type 0} → Out K → ℕ
 sink_of out = out.sink.ghost_name
 
 -- the bytes went on behind those that waited: the sink took a front of both, and the rest waits
-pub record Puts (room : Option ℕ) (before : Option (List ℕ)) (waited : List ℕ) (after : Option (List ℕ)) (waiting bytes : List ℕ) : Type 0 where
+pub record Puts (room : Option ℕ) (before : Option (List ℕ)) (waited : List ℕ)
+    (after : Option (List ℕ)) (waiting bytes : List ℕ) : Type 0 where
   pub sent : List ℕ
   pub parts : waited ++ bytes ≡ sent ++ waiting
   pub took : Took room before after sent
 
--- what a call on an `Out` does that puts these bytes: at `Ok` all went on; at `Err`, which only a fault of the sink makes, the sink took a front of what was put, and the `Out` is failed from then on
-pub record Put {T E : Type 0} (before after : Stage) (bytes : List ℕ) (result : Result T E) : Type 0 where
-  pub ok : OnOk result (Puts before.sink.room before.sink.taken before.waiting after.sink.taken after.waiting bytes)
-  pub err : OnErr result (TookFront before.sink.room before.sink.taken after.sink.taken (before.waiting ++ bytes))
+-- what a call on an `Out` does that puts these bytes: at `Ok` all went on; at `Err`, which only a
+-- fault of the sink makes, the sink took a front of what was put, and the `Out` is failed from then
+-- on
+pub record Put {T E : Type 0} (before after : Stage) (bytes : List ℕ) (result : Result T E)
+    : Type 0 where
+  pub ok : OnOk result
+      (Puts before.sink.room before.sink.taken before.waiting after.sink.taken after.waiting bytes)
+  pub err : OnErr result
+      (TookFront before.sink.room before.sink.taken after.sink.taken (before.waiting ++ bytes))
   pub failed : after.failed ≡ is_err result
   pub room : after.sink.room ≡ before.sink.room
   pub cause : HasCause before.sink.faults after.sink.faults result
 
--- what a call does that writes these bytes to a sink: at `Ok` the sink took all of them, at `Err`, which only a fault of the sink makes, a front of them
-pub record Wrote {T E : Type 0} (before after : SinkView) (bytes : List ℕ) (result : Result T E) : Type 0 where
+-- The one contract of the calls on an `Out` over a sink with these members: these bytes were put,
+-- and it still writes to the same sink.
+pub record PutOn {K T E : Type 0}
+    (room : K → Option ℕ) (taken : K → Option (List ℕ)) (faults : K → ℕ)
+    (before after : Out K) (bytes : List ℕ) (result : Result T E) : Type 0 where
+  pub same : sink_of after ≡ sink_of before
+  pub put : Put (stage room taken faults before) (stage room taken faults after) bytes result
+
+-- what a call does that writes these bytes to a sink: at `Ok` the sink took all of them, at `Err`,
+-- which only a fault of the sink makes, a front of them
+pub record Wrote {T E : Type 0} (before after : SinkView) (bytes : List ℕ) (result : Result T E)
+    : Type 0 where
   pub ok : OnOk result (Took before.room before.taken after.taken bytes)
   pub err : OnErr result (TookFront before.room before.taken after.taken bytes)
   pub room : after.room ≡ before.room
   pub cause : HasCause before.faults after.faults result
 
 -- the bytes of a piece
-abbrev pub text_of : Piece → List ℕ
-text_of (Text bytes) = bytes.now
-text_of (Number n) = signed_decimal n
+abbrev pub piece_text : Piece → List ℕ
+piece_text (Text bytes) = bytes.now
+piece_text (Number n) = signed_decimal n

@@ -9,21 +9,21 @@ use Rattle.port_io.specs.MemoryPorts.{SureSinkState, sure_taken}
 pub Took-nothing : (bytes : List ℕ) → Took None (Some bytes) (Some bytes) []
 Took-nothing bytes = ap Some (sym (append-nil bytes))
 
--- a sink without a limit, whether it tells or not
-pub unlimited-nothing : (taken : Option (List ℕ)) → Took None taken taken []
-unlimited-nothing None = tt
-unlimited-nothing (Some bytes) = Took-nothing bytes
-
 -- what a sink tells of these bytes, by whether they fit its room
 kept_if : Bool → List ℕ → Option (List ℕ)
 kept_if fits bytes = if fits then Some bytes else None
 
-limited-nothing : (room : ℕ) (bytes : List ℕ) (fits : Bool) → nat_le (length bytes) room ≡ fits → Took (Some room) (kept_if fits bytes) (kept_if fits bytes) []
+limited-nothing : (room : ℕ) (bytes : List ℕ) (fits : Bool) → nat_le (length bytes) room ≡ fits
+    → Took (Some room) (kept_if fits bytes) (kept_if fits bytes) []
 unfolding kept_if
 limited-nothing room bytes false e = refl
-limited-nothing room bytes true e = sym (ap (told (Some room)) (append-nil bytes) ∙ ap (λ fits. if fits then Some bytes else None) e)
+limited-nothing room bytes true e =
+    sym
+    (ap (told (Some room)) (append-nil bytes) ∙ ap (λ fits. if fits then Some bytes else None) e)
 
-sure_bytes-nothing : (room : ℕ) (bytes : Option (List ℕ)) → let s : SureSinkState = record { room = room; bytes = bytes } in Took (Some room) (sure_taken s) (sure_taken s) []
+sure_bytes-nothing : (room : ℕ) (bytes : Option (List ℕ)) →
+    let s : SureSinkState = record { room = room; bytes = bytes } in
+    Took (Some room) (sure_taken s) (sure_taken s) []
 unfolding kept_if
 sure_bytes-nothing room None = refl
 sure_bytes-nothing room (Some bytes) = limited-nothing room bytes (nat_le (length bytes) room) refl

@@ -1,15 +1,16 @@
 //! The readers and writers of std as ports.
 
-ghost use Rattle.std.specs.Prelude.{◌≡◌, ℕ, ◌<◌, ◌≤◌, None, Some, length, IfOk};
-ghost use Rattle.port_io.specs.Faults.{HasCause};
+ghost use Rattle.std.specs.Prelude.{◌≡◌, ℕ, ◌<◌, ◌≤◌, None, Some, length, IfOk, refl};
+ghost use Rattle.port_io.specs.Faults.{HasCause, CountsFaults};
+ghost use Rattle.std.specs.Io.KnownBytes.{WriteAppends};
+ghost use Rattle.port_io.specs.Adapters.{writer_of};
 ghost use Rattle.port_io.specs.Bytes.{Reads, Took, Writes};
-ghost use Rattle.port_io.specs.SinkLaws.{unlimited-nothing};
 
 use crate::ports::{Failed, Sink, Source};
 use std::io::{ErrorKind, Read, Write};
 
-/// A reader of `std` as a source. It tells the bytes that the reader tells, and its count rises
-/// at each read that fails, up to 2^64 - 1. A read that a signal interrupted is read again.
+/// A reader of `std` as a source. It tells the bytes that the reader tells, and counts each read
+/// that fails, up to 2^64 - 1, and nothing else. A read that a signal interrupted is read again.
 #[derive(Drop)]
 pub struct StdSource<R> {
     inner: R,
@@ -31,7 +32,18 @@ impl<R: Read> Source for StdSource<R> {
 
     ghost faults = { λ s. s.faults };
 
-    fn read(&mut self, buf: &mut [u8]) -> Result<usize, Failed> {
+    fn read(&mut self, buf: &mut [u8]) -> Result<usize, Failed>
+        requires { 0 < length buf.old }
+        ensures bound { IfOk result (λ n. n ≤ length buf.new) }
+        ensures bytes { Reads (⟦<StdSource<R> as Source>⟧.left self.old)
+            (⟦<StdSource<R> as Source>⟧.left self.new) result buf.new }
+        ensures cause { HasCause (⟦<StdSource<R> as Source>⟧.faults self.old)
+            (⟦<StdSource<R> as Source>⟧.faults self.new) result }
+
+        // The count rises by one where the read failed, and nowhere else.
+        ensures faults { CountsFaults (⟦<StdSource<R> as Source>⟧.faults self.old)
+            (⟦<StdSource<R> as Source>⟧.faults self.new) result }
+    {
         for _ in 0..u64::MAX {
             match self.inner.read(buf) {
                 Ok(count) => return Ok(count),
@@ -47,8 +59,9 @@ impl<R: Read> Source for StdSource<R> {
     }
 }
 
-/// A writer of `std` as a sink. It tells the bytes that the writer tells, and its count rises at
-/// each write that fails or takes nothing, up to 2^64 - 1.
+/// A writer of `std` as a sink. It passes the bytes on, and tells none: a writer may begin to tell
+/// at any call, and a sink doesn't. It counts each write that fails or takes nothing, up to
+/// 2^64 - 1, and nothing else.
 #[derive(Drop)]
 pub struct StdSink<W> {
     inner: W,
@@ -58,7 +71,8 @@ pub struct StdSink<W> {
 impl<W: Write> StdSink<W> {
     /// The sink over this writer, with no faults counted.
     pub fn new(inner: W) -> StdSink<W>
-        ensures taken { ⟦<StdSink<W> as Sink>⟧.taken result ≡ W.contents inner }
+        ensures writer { writer_of result ≡ inner }
+        ensures taken { ⟦<StdSink<W> as Sink>⟧.taken result ≡ None }
         ensures faults { ⟦<StdSink<W> as Sink>⟧.faults result ≡ 0 }
     {
         StdSink { inner, faults: 0 }
@@ -68,13 +82,26 @@ impl<W: Write> StdSink<W> {
 impl<W: Write> Sink for StdSink<W> {
     ghost room = { λ _. None };
 
-    ghost taken = { λ s. W.contents s.inner };
+    ghost taken = { λ _. None };
 
     ghost faults = { λ s. s.faults };
 
-    ghost nothing = { λ s. unlimited-nothing (W.contents s.inner) };
+    ghost nothing = { λ _. refl };
 
-    fn write(&mut self, piece: &[u8]) -> Result<usize, Failed> {
+    fn write(&mut self, piece: &[u8]) -> Result<usize, Failed>
+        requires { 0 < length piece.now }
+        ensures bound { IfOk result (λ n. (0 < n) × (n ≤ length piece.now)) }
+        ensures cause { HasCause (⟦<StdSink<W> as Sink>⟧.faults self.old)
+            (⟦<StdSink<W> as Sink>⟧.faults self.new) result }
+
+        // The bytes that it took went to the writer.
+        ensures passed { WriteAppends (W.contents (writer_of self.old))
+            (W.contents (writer_of self.new)) result piece.now }
+
+        // The count rises by one where the write failed or took nothing, and nowhere else.
+        ensures faults { CountsFaults (⟦<StdSink<W> as Sink>⟧.faults self.old)
+            (⟦<StdSink<W> as Sink>⟧.faults self.new) result }
+    {
         match self.inner.write(piece) {
             Ok(count) if count > 0 => Ok(count),
             _ => {

@@ -3,10 +3,10 @@
 ghost use Rattle.std.specs.Prelude.{◌≡◌, ◌<◌, [], length, OnOk};
 ghost use Rattle.std.specs.Fmt.{signed_decimal};
 ghost use Rattle.std.specs.List.{flat_map};
-ghost use Rattle.port_io.specs.Output.{Put, Wrote, IsOpen, has_failed, sink_of, sink_view, stage, fresh, text_of};
+ghost use Rattle.port_io.specs.Output.{PutOn, Wrote, IsOpen, has_failed, sink_of, sink_view, stage, fresh, piece_text};
 
+use crate::buffer::Buffer;
 use crate::ports::Sink;
-use crate::waiting::Waiting;
 
 /// A write that failed. The sink's count of faults rose, and it took a front of what was put.
 #[derive(Clone, Copy, Debug, PartialEq, Eq)]
@@ -44,7 +44,7 @@ pub enum Piece<'a> {
 #[derive(Drop)]
 pub struct Out<'a, K: Sink> {
     sink: &'a mut K,
-    waiting: Waiting,
+    waiting: Buffer,
     failed: bool,
 }
 
@@ -57,7 +57,7 @@ impl<'a, K: Sink> Out<'a, K> {
     {
         Out {
             sink,
-            waiting: Waiting::new(),
+            waiting: Buffer::new(),
             failed: false,
         }
     }
@@ -72,9 +72,7 @@ impl<'a, K: Sink> Out<'a, K> {
     /// Puts these bytes.
     pub fn put(&mut self, bytes: &[u8]) -> Result<(), WriteFault>
         requires { IsOpen self.old }
-        ensures same { sink_of self.new ≡ sink_of self.old }
-        ensures put { Put (stage K.room K.taken K.faults self.old)
-            (stage K.room K.taken K.faults self.new) bytes.now result }
+        ensures { PutOn K.room K.taken K.faults self.old self.new bytes.now result }
     {
         let mut at = 0;
         while at < bytes.len() {
@@ -87,9 +85,7 @@ impl<'a, K: Sink> Out<'a, K> {
     /// Puts this number in decimal, with a `-` before a negative one.
     pub fn put_number(&mut self, n: i64) -> Result<(), WriteFault>
         requires { IsOpen self.old }
-        ensures same { sink_of self.new ≡ sink_of self.old }
-        ensures put { Put (stage K.room K.taken K.faults self.old)
-            (stage K.room K.taken K.faults self.new) (signed_decimal n) result }
+        ensures { PutOn K.room K.taken K.faults self.old self.new (signed_decimal n) result }
     {
         let mut digits = itoa::Buffer::new();
         self.put(digits.format(n).as_bytes())
@@ -98,9 +94,8 @@ impl<'a, K: Sink> Out<'a, K> {
     /// Puts these pieces, one after another.
     pub fn put_pieces(&mut self, pieces: &[Piece<'_>]) -> Result<(), WriteFault>
         requires { IsOpen self.old }
-        ensures same { sink_of self.new ≡ sink_of self.old }
-        ensures put { Put (stage K.room K.taken K.faults self.old)
-            (stage K.room K.taken K.faults self.new) (flat_map text_of pieces.now) result }
+        ensures { PutOn K.room K.taken K.faults self.old self.new
+            (flat_map piece_text pieces.now) result }
     {
         for piece in pieces {
             self.put_piece(*piece)?;
@@ -111,9 +106,7 @@ impl<'a, K: Sink> Out<'a, K> {
     /// Puts one piece.
     fn put_piece(&mut self, piece: Piece<'_>) -> Result<(), WriteFault>
         requires { IsOpen self.old }
-        ensures same { sink_of self.new ≡ sink_of self.old }
-        ensures put { Put (stage K.room K.taken K.faults self.old)
-            (stage K.room K.taken K.faults self.new) (text_of piece.entry) result }
+        ensures { PutOn K.room K.taken K.faults self.old self.new (piece_text piece.entry) result }
     {
         match piece {
             Piece::Text(bytes) => self.put(bytes),
@@ -124,9 +117,7 @@ impl<'a, K: Sink> Out<'a, K> {
     /// Leaves space for a byte at least.
     fn make_space(&mut self) -> Result<(), WriteFault>
         requires { IsOpen self.old }
-        ensures same { sink_of self.new ≡ sink_of self.old }
-        ensures put { Put (stage K.room K.taken K.faults self.old)
-            (stage K.room K.taken K.faults self.new) [] result }
+        ensures put { PutOn K.room K.taken K.faults self.old self.new [] result }
         ensures space { OnOk result (length self.new.waiting < 4096) }
     {
         if self.waiting.is_full() {
@@ -139,9 +130,7 @@ impl<'a, K: Sink> Out<'a, K> {
     /// Writes what waits to the sink.
     fn flush(&mut self) -> Result<(), WriteFault>
         requires { IsOpen self.old }
-        ensures same { sink_of self.new ≡ sink_of self.old }
-        ensures put { Put (stage K.room K.taken K.faults self.old)
-            (stage K.room K.taken K.faults self.new) [] result }
+        ensures put { PutOn K.room K.taken K.faults self.old self.new [] result }
         ensures empty { OnOk result (self.new.waiting ≡ []) }
     {
         match write_all(self.sink, self.waiting.as_slice()) {

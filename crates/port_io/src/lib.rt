@@ -6,16 +6,17 @@
 #![tactic(auto)]
 
 mod adapters;
+mod buffer;
 mod buffered;
 mod memory;
 mod ports;
 mod sure;
 #[cfg(test)]
 mod tests;
-mod waiting;
 mod whole;
 
 pub use adapters::{StdSink, StdSource};
+pub use buffer::{BUFFER_SIZE, Buffer};
 pub use buffered::{Out, Piece, WriteFault};
 pub use memory::{MemSink, MemSource, NoMemory};
 pub use ports::{Failed, Sink, Source};

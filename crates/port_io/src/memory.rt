@@ -1,9 +1,9 @@
 //! A source and a sink in memory, which fail at the calls that they are told to.
 
-ghost use Rattle.std.specs.Prelude.{◌≡◌, ℕ, ◌+◌, ◌-◌, ◌<◌, ◌≤◌, ◌||◌, None, Some, List, [], ◌++◌, length, take, drop, min, nat_le, vec_len, vec_capacity, is_err, IfOk, OnOk, OnErr, refl, if◌then◌else◌};
-ghost use Rattle.port_io.specs.Faults.{HasCause};
+ghost use Rattle.std.specs.Prelude.{◌≡◌, ℕ, ◌+◌, ◌-◌, ◌<◌, ◌≤◌, ◌||◌, None, Some, List, [], ◌++◌, length, take, drop, min, nat_le, vec_len, vec_capacity, is_err, IfOk, OnOk, OnErr, refl};
+ghost use Rattle.port_io.specs.Faults.{HasCause, CountsFaults, next_count};
 ghost use Rattle.port_io.specs.Bytes.{Reads, Took, Writes};
-ghost use Rattle.port_io.specs.MemoryPorts.{MemSourceState, MemSinkState, counted, is_listed};
+ghost use Rattle.port_io.specs.MemoryPorts.{MemSourceState, MemSinkState, is_listed};
 ghost use Rattle.port_io.specs.SinkLaws.{Took-nothing};
 
 use crate::ports::{Failed, Sink, Source};
@@ -83,7 +83,7 @@ impl Schedule {
     /// Counts a call, and says whether it is to fail.
     fn call(&mut self) -> bool
         ensures listed { result ≡ is_listed self.old.fails.items self.new.calls }
-        ensures calls { self.new.calls ≡ counted self.old.calls }
+        ensures calls { self.new.calls ≡ next_count self.old.calls }
         ensures fails { self.new.fails.items ≡ self.old.fails.items }
         ensures faults { self.new.faults ≡ self.old.faults }
     {
@@ -93,7 +93,7 @@ impl Schedule {
 
     /// Counts a fault.
     fn fault(&mut self) -> Failed
-        ensures faults { self.new.faults ≡ counted self.old.faults }
+        ensures faults { self.new.faults ≡ next_count self.old.faults }
         ensures calls { self.new.calls ≡ self.old.calls }
         ensures fails { self.new.fails.items ≡ self.old.fails.items }
     {
@@ -163,9 +163,8 @@ impl Source for MemSource {
             n ≡ min (min self.old.chunk (length buf.new)) (length self.old.left)) }
 
         // Each call and each fault is counted, and the rest stays.
-        ensures calls { self.new.calls ≡ counted self.old.calls }
-        ensures faults { self.new.faults
-            ≡ (if is_err result then counted self.old.faults else self.old.faults) }
+        ensures calls { self.new.calls ≡ next_count self.old.calls }
+        ensures faults { CountsFaults self.old.faults self.new.faults result }
         ensures chunk { self.new.chunk ≡ self.old.chunk }
         ensures fails { self.new.fails ≡ self.old.fails }
     {
@@ -198,7 +197,8 @@ impl Model for MemSink {
       faults = s.schedule.faults;
     } };
 
-    ghost invariant = { λ s. (0 < s.chunk) × (vec_len s.bytes ≤ s.room) × (s.room ≤ vec_capacity s.bytes) };
+    ghost invariant = { λ s.
+        (0 < s.chunk) × (vec_len s.bytes ≤ s.room) × (s.room ≤ vec_capacity s.bytes) };
 }
 
 impl MemSink {
@@ -259,12 +259,12 @@ impl Sink for MemSink {
         ensures listed { is_err result ≡ (is_listed self.old.fails self.new.calls
             || nat_le self.old.room (length self.old.bytes)) }
         ensures count { IfOk result (λ n.
-            n ≡ min (min self.old.chunk (length piece.now)) (self.old.room - length self.old.bytes)) }
+            n ≡ min (min self.old.chunk (length piece.now))
+            (self.old.room - length self.old.bytes)) }
 
         // Each call and each fault is counted, and the rest stays.
-        ensures calls { self.new.calls ≡ counted self.old.calls }
-        ensures faults { self.new.faults
-            ≡ (if is_err result then counted self.old.faults else self.old.faults) }
+        ensures calls { self.new.calls ≡ next_count self.old.calls }
+        ensures faults { CountsFaults self.old.faults self.new.faults result }
         ensures room { self.new.room ≡ self.old.room }
         ensures chunk { self.new.chunk ≡ self.old.chunk }
         ensures fails { self.new.fails ≡ self.old.fails }

@@ -32,8 +32,9 @@ pub trait Source {
 /// Where bytes go.
 ///
 /// A sink has the bytes that it took, where it tells them, and a count of faults that never
-/// falls. Its room, if it has one, is how many bytes it tells at most: it tells what it took
-/// exactly as long as that fits its room.
+/// falls. One that tells its bytes after a call also told them before that call. Its room, if it
+/// has one, is how many bytes it tells at most: it tells what it took exactly as long as that fits
+/// its room.
 pub trait Sink {
     /// How many bytes the sink tells at most, if there is a limit.
     ghost room: { Self → Option ℕ };

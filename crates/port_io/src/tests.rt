@@ -1,10 +1,11 @@
 //! Faults in mid-stream, and each public call where nothing fails.
 
-ghost use Rattle.std.specs.Prelude.{◌≡◌, ◌++◌, codes};
+ghost use Rattle.std.specs.Prelude.{◌≡◌, ◌≤◌, ◌++◌, codes, IfOk};
 ghost use Rattle.std.specs.Fmt.{signed_decimal};
 ghost use Rattle.port_io.specs.Output.{Wrote, sink_view};
 
 use super::*;
+use std::io::{self, ErrorKind, Read, Write};
 use std::test::Fail;
 
 /// Writes a line through an `Out`, from its making to its end.
@@ -23,7 +24,7 @@ fn write_line<K: Sink>(sink: &mut K, number: i64) -> Result<(), WriteFault>
 }
 
 /// Each port may be handed to another thread.
-fn handed_over<T: Send>(port: T) -> T
+fn hand_over<T: Send>(port: T) -> T
     ensures { result ≡ port }
 {
     port
@@ -41,7 +42,7 @@ fn a_sink_takes_what_came_before_its_fault(rt: HostRuntime) -> Result<(), Fail> 
     ] {
         let fails = Vec::from_slice(rt.alloc(), fails)?;
         let sink = MemSink::with_room(rt.alloc(), room, 10, fails).map_err(|_| "memory")?;
-        let mut sink = handed_over(sink);
+        let mut sink = hand_over(sink);
         assert_eq!(rt; write_line(&mut sink, i64::MIN), answer);
         assert_eq!(rt; sink.bytes(), taken.as_bytes());
     }
@@ -56,7 +57,7 @@ fn a_sure_sink_tells_what_fits_its_room(rt: HostRuntime) -> Result<(), Fail> {
         (0, None),
     ] {
         let sink = SureSink::with_room(rt.alloc(), room).map_err(|_| "memory")?;
-        let mut sink = handed_over(sink);
+        let mut sink = hand_over(sink);
         assert_eq!(rt; write_line(&mut sink, 12), Ok(()));
         assert_eq!(rt; sink.bytes(), told);
     }
@@ -84,14 +85,14 @@ fn a_whole_input_is_read(rt: HostRuntime) -> Result<(), Fail> {
     ] {
         let held = Vec::from_slice(rt.alloc(), text)?;
         let source = MemSource::new(held, 10, Vec::from_slice(rt.alloc(), fails)?);
-        let mut source = handed_over(source);
+        let mut source = hand_over(source);
         let read = read_up_to(rt.alloc(), &mut source, limit);
         assert_eq!(rt; answer_of(&read), answer);
         if let Ok(read) = read {
             assert_eq!(rt; read.as_slice(), text.as_slice());
         }
     }
-    let mut source = handed_over(SureSource::new(Vec::from_slice(rt.alloc(), text)?));
+    let mut source = hand_over(SureSource::new(Vec::from_slice(rt.alloc(), text)?));
     let read = read_up_to(rt.alloc(), &mut source, 30)?;
     assert_eq!(rt; read.as_slice(), text.as_slice());
     Ok(())
@@ -99,15 +100,133 @@ fn a_whole_input_is_read(rt: HostRuntime) -> Result<(), Fail> {
 
 #[test]
 fn readers_and_writers_of_std_are_ports(rt: HostRuntime) -> Result<(), Fail> {
-    let mut source = handed_over(StdSource::new(b"over std".as_slice()));
+    let mut source = hand_over(StdSource::new(b"over std".as_slice()));
     let read = read_up_to(rt.alloc(), &mut source, 8)?;
     assert_eq!(rt; read.as_slice(), b"over std".as_slice());
 
     let mut written = Vec::new(rt.alloc());
-    let mut sink = handed_over(StdSink::new(&mut written));
+    let mut sink = hand_over(StdSink::new(&mut written));
     assert_eq!(rt; write_line(&mut sink, 7), Ok(()));
     assert_eq!(rt; written.as_slice(), b"the number is 7\n".as_slice());
     Ok(())
+}
+
+/// What a call of a `Choppy` does.
+#[derive(Clone, Copy)]
+enum Call {
+    /// Reads or takes one byte.
+    Byte,
+    /// Takes nothing.
+    Nothing,
+    /// Fails.
+    Fails(ErrorKind),
+}
+
+/// A reader of `x`, and a writer, whose calls do what is listed, and then find the end.
+#[derive(Drop)]
+struct Choppy {
+    calls: &'static [Call],
+}
+
+impl Choppy {
+    /// What the next call answers.
+    fn next(&mut self) -> io::Result<usize>
+        ensures { IfOk result (λ n. n ≤ 1) }
+    {
+        let [call, after @ ..] = self.calls else {
+            return Ok(0);
+        };
+        self.calls = after;
+        match *call {
+            Call::Byte => Ok(1),
+            Call::Nothing => Ok(0),
+            Call::Fails(kind) => Err(kind.into()),
+        }
+    }
+}
+
+impl Read for Choppy {
+    fn read(&mut self, buf: &mut [u8]) -> io::Result<usize> {
+        if buf.is_empty() {
+            return Ok(0);
+        }
+        buf[0] = b'x';
+        self.next()
+    }
+}
+
+impl Write for Choppy {
+    fn write(&mut self, buf: &[u8]) -> io::Result<usize> {
+        if buf.is_empty() {
+            return Ok(0);
+        }
+        self.next()
+    }
+
+    fn flush(&mut self) -> io::Result<()> {
+        Ok(())
+    }
+}
+
+#[test]
+fn a_reader_of_std_that_fails(rt: HostRuntime) -> Result<(), Fail> {
+    let table: [(&'static [Call], &str); 5] = [
+        (&[Call::Byte, Call::Byte], "read"),
+        (
+            &[Call::Byte, Call::Fails(ErrorKind::Interrupted), Call::Byte],
+            "read",
+        ),
+        (
+            &[Call::Byte, Call::Fails(ErrorKind::Other), Call::Byte],
+            "read fault",
+        ),
+        (&[Call::Fails(ErrorKind::NotFound)], "read fault"),
+        (
+            &[
+                Call::Byte,
+                Call::Byte,
+                Call::Byte,
+                Call::Fails(ErrorKind::Other),
+            ],
+            "too long",
+        ),
+    ];
+    for (calls, answer) in table {
+        let mut source = StdSource::new(Choppy { calls });
+        let read = read_up_to(rt.alloc(), &mut source, 2);
+        assert_eq!(rt; answer_of(&read), answer);
+        if let Ok(read) = read {
+            assert_eq!(rt; read.as_slice(), b"xx".as_slice());
+        }
+    }
+    Ok(())
+}
+
+#[test]
+fn a_writer_of_std_that_fails(rt: HostRuntime) {
+    let table: [(
+        &'static [Call],
+        Result<usize, Failed>,
+        Result<usize, Failed>,
+    ); 4] = [
+        (&[Call::Byte, Call::Byte], Ok(1), Ok(1)),
+        (
+            &[Call::Byte, Call::Fails(ErrorKind::Other), Call::Byte],
+            Ok(1),
+            Err(Failed),
+        ),
+        (
+            &[Call::Fails(ErrorKind::Other), Call::Byte],
+            Err(Failed),
+            Ok(1),
+        ),
+        (&[Call::Byte, Call::Nothing, Call::Byte], Ok(1), Err(Failed)),
+    ];
+    for (calls, first, second) in table {
+        let mut sink = StdSink::new(Choppy { calls });
+        assert_eq!(rt; sink.write(b"ab"), first);
+        assert_eq!(rt; sink.write(b"ab"), second);
+    }
 }
 
 /// Writes a text, a number and the text again.

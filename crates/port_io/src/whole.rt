@@ -1,15 +1,16 @@
 //! Reading an input to its end.
 
-ghost use Rattle.std.specs.Prelude.{◌≡◌, ◌<◌, ◌≤◌, [], Some, length, vec_len, IfOk, OnOk, IfSome, IsErr, IsErrOf};
+ghost use Rattle.std.specs.Prelude.{◌≡◌, ◌-◌, ◌<◌, ◌≤◌, [], Some, length, vec_len, IfOk, OnOk, IfSome, IsErr, IsErrOf};
 ghost use Rattle.port_io.specs.Faults.{Rose};
 ghost use Rattle.port_io.specs.Bytes.{HasRest};
+ghost use Rattle.port_io.specs.Whole.{StopsWithin};
 
 use crate::ports::Source;
 use std::alloc::Global;
 use thiserror::Error;
 
 /// How many bytes one read asks for at most.
-const PIECE: usize = 4096;
+pub(crate) const PIECE: usize = 4096;
 
 /// Why an input was not read to its end.
 #[derive(Debug, Drop, Error)]
@@ -28,8 +29,9 @@ pub enum ReadAll {
 /// All bytes of the source to its end, of which there may be `limit` at most.
 ///
 /// `TooLong` comes where more than `limit` bytes came, `ReadFault` only where the source's count
-/// of faults rose in this call, and `NoMemory` where memory ran out. What was read stays
-/// read: after an error the source has a rest of its bytes left.
+/// of faults rose in this call, and `NoMemory` where memory ran out: whichever happened first. At
+/// most 4,096 bytes are read past the limit. What was read stays read: after an error the source
+/// has a rest of its bytes left.
 pub fn read_up_to<S: Source>(
     alloc: Global,
     source: &mut S,
@@ -47,6 +49,10 @@ pub fn read_up_to<S: Source>(
         → IfSome (S.left source.old) (λ xs. limit < length xs) }
     ensures read_fault { IsErrOf result ReadAll.ReadFault
         → Rose (S.faults source.old) (S.faults source.new) }
+
+    // It stops at the first of these.
+    ensures stop { IfSome (S.left source.old) (λ xs. IfSome (S.left source.new)
+        (λ ys. StopsWithin limit (length xs - length ys) result)) }
 
     // Whatever the answer, the source goes on telling, and its count has not fallen.
     ensures rest { IfSome (S.left source.old) (λ xs. HasRest xs (S.left source.new)) }

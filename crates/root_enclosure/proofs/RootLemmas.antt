@@ -1,24 +1,20 @@
 -- Whole square roots: they exist, they are the only ones, and how they grow.
 use Rattle.std.proofs.Common.{◌≡◌, ℕ, zero, suc, ◌+◌, ◌-◌, ◌*◌, ◌/◌, ◌%◌, ◌^◌, ◌<◌, ◌≤◌, Bool, true, false, cond, eqb, ltb, leb, refl, add-zero, arith, ⊎_elim}
 use Rattle.std.proofs.lemmas.Bool.{cases_lt}
-use Rattle.std.proofs.lemmas.Nat.{mul-le, mul-lt, pow-add}
+use Rattle.std.proofs.lemmas.Nat.{mul-lt, pow-add}
 use mir.Val.{bool_byte}
 use borrow.Author.Tests.{eqb-true, eqb-false, ltb-true, ltb-false}
 use lib.Dec.{leb→le, nleb→lt}
 use Rattle.siting_definitions.specs.Root.{IsFloorRoot, IsCeilRoot, root_of_digits, floor_root, ceil_root}
+use Rattle.siting_definitions.proofs.Integers.{square_le, square_cancel_le}
 use Rattle.std.specs.Float.Ieee.{size}
 use lib.Ieee.Digits.{size-lt}
 
 -- ---- squares
 
-pub square-le : (a b : ℕ) → a ≤ b → a * a ≤ b * b
-square-le a b h = mul-le a a b b h h
-
+-- the lesser square has the lesser root
 pub lt-of-squares : (a b : ℕ) → a * a < b * b → a < b
-lt-of-squares a b h = ⊎_elim (λ l. l) (λ g. let back = square-le b a g in omega arith) (cases_lt a b)
-
-pub le-of-squares : (a b : ℕ) → a * a ≤ b * b → a ≤ b
-le-of-squares a b h = ⊎_elim (λ l. let back = square-le (b + 1) a (omega arith) in omega arith) (λ g. g) (cases_lt b a)
+lt-of-squares a b h = ⊎_elim (λ l. l) (λ g. let back = square_le b a g in omega arith) (cases_lt a b)
 
 -- ---- the root, rounded down
 
@@ -60,6 +56,7 @@ floor_root-lt m c h =
     let below = (floor_root-is m).at_most in
     lt-of-squares (floor_root m) c (omega arith)
 
+-- a greater number has no lesser root
 pub floor_root-mono : (m n : ℕ) → m ≤ n → floor_root m ≤ floor_root n
 floor_root-mono m n h =
     let below = (floor_root-is m).at_most in
@@ -71,13 +68,14 @@ rest_is m f hm hf h =
     let small : f * f < 2 ^ 63 * 2 ^ 63 = mul-lt f f (2 ^ 63) (2 ^ 63) hf hf in
     omega arith
 
+-- a root rounded down, by what its square leaves
 pub IsFloorRoot-rest : (m f rest : ℕ) → f * f + rest ≡ m → rest ≤ 2 * f → IsFloorRoot m f
 IsFloorRoot-rest m f rest e h = record { at_most = omega arith; next_above = omega arith }
 
 -- ---- the root, rounded up
 
 exact : (m f : ℕ) → m ≤ f * f → f * f ≤ m → IsCeilRoot m f
-exact m f l g = record { at_least = l; least = λ d h. le-of-squares f d (omega arith) }
+exact m f l g = record { at_least = l; least = λ d h. square_cancel_le f d (omega arith) }
 
 next : (m f : ℕ) → f * f < m → m < (f + 1) * (f + 1) → IsCeilRoot m (f + 1)
 next m f l g = record { at_least = omega arith; least = λ d h. let above : f < d = lt-of-squares f d (omega arith) in omega arith }
@@ -114,11 +112,13 @@ ceil_root-unique m c h = ceil_roots_agree m c (ceil_root m) h (ceil_root-is m)
 pub ceil_root-le : (m c : ℕ) → m ≤ c * c → ceil_root m ≤ c
 ceil_root-le m c h = (ceil_root-is m).least c h
 
+-- a greater number has no lesser root
 pub ceil_root-mono : (m n : ℕ) → m ≤ n → ceil_root m ≤ ceil_root n
 ceil_root-mono m n h =
     let least = (ceil_root-is n).at_least in
     ceil_root-le m (ceil_root n) (omega arith)
 
+-- the root of a number below a power of four
 pub ceil_root-le-pow : (n k : ℕ) → n ≤ 2 ^ (2 * k) → ceil_root n ≤ 2 ^ k
 ceil_root-le-pow n k h =
     let square : 2 ^ (k + k) ≡ 2 ^ k * 2 ^ k = pow-add 2 k k in
@@ -127,12 +127,14 @@ ceil_root-le-pow n k h =
 
 -- ---- both
 
+-- the root rounded down is at most the one rounded up
 pub floor_root-le-ceil_root : (m : ℕ) → floor_root m ≤ ceil_root m
 floor_root-le-ceil_root m =
     let below = (floor_root-is m).at_most in
     let least = (ceil_root-is m).at_least in
-    le-of-squares (floor_root m) (ceil_root m) (omega arith)
+    square_cancel_le (floor_root m) (ceil_root m) (omega arith)
 
+-- which is at most one greater
 pub ceil_root-le-floor_root : (m : ℕ) → ceil_root m ≤ floor_root m + 1
 ceil_root-le-floor_root m =
     let above = (floor_root-is m).next_above in
@@ -140,33 +142,39 @@ ceil_root-le-floor_root m =
 
 -- ---- in units of which 65536 make one
 
+-- a root rounded down isn't less in finer units
 pub floor_root-finer_above : (n : ℕ) → 65536 * floor_root n ≤ floor_root (n * 2 ^ 32)
 floor_root-finer_above n =
     let below = (floor_root-is n).at_most in
     le-floor_root (n * 2 ^ 32) (65536 * floor_root n) (omega arith)
 
+-- nor greater by a whole unit
 pub floor_root-finer_below : (n : ℕ) → floor_root (n * 2 ^ 32) ≤ 65536 * floor_root n + 65535
 floor_root-finer_below n =
     let above = (floor_root-is n).next_above in
     let l : floor_root (n * 2 ^ 32) < 65536 * (floor_root n + 1) = floor_root-lt (n * 2 ^ 32) (65536 * (floor_root n + 1)) (omega arith) in
     omega arith
 
+-- so that the quotient is the root in whole units
 pub floor_root-finer : (n : ℕ) → floor_root (n * 2 ^ 32) / 65536 ≡ floor_root n
 floor_root-finer n = omega (arith, floor_root-finer_above n, floor_root-finer_below n)
 
+-- a root rounded up isn't greater in finer units
 pub ceil_root-finer_below : (n : ℕ) → ceil_root (n * 2 ^ 32) ≤ 65536 * ceil_root n
 ceil_root-finer_below n =
     let least = (ceil_root-is n).at_least in
     ceil_root-le (n * 2 ^ 32) (65536 * ceil_root n) (omega arith)
 
+-- nor less by a whole unit
 pub ceil_root-finer_above : (n : ℕ) → 65536 * ceil_root n ≤ ceil_root (n * 2 ^ 32) + 65535
 ceil_root-finer_above n =
     let q = (ceil_root (n * 2 ^ 32) + 65535) / 65536 in
     let least = (ceil_root-is (n * 2 ^ 32)).at_least in
     let squares : ceil_root (n * 2 ^ 32) * ceil_root (n * 2 ^ 32) ≤ (65536 * q) * (65536 * q) =
-    square-le (ceil_root (n * 2 ^ 32)) (65536 * q) (omega arith) in
+    square_le (ceil_root (n * 2 ^ 32)) (65536 * q) (omega arith) in
     let l : ceil_root n ≤ q = ceil_root-le n q (omega arith) in
     omega arith
 
+-- so that the quotient, rounded up, is the root in whole units
 pub ceil_root-finer : (n : ℕ) → (ceil_root (n * 2 ^ 32) + 65535) / 65536 ≡ ceil_root n
 ceil_root-finer n = omega (arith, ceil_root-finer_above n, ceil_root-finer_below n)

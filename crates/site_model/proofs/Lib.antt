@@ -1,4 +1,4 @@
-pub mod Weights
-pub mod Extremes
+mod Weights
+mod Extremes
 pub mod Vertices
 pub mod Rooted

@@ -3,7 +3,7 @@ use Rattle.std.proofs.Common.{◌≡◌, ℕ, ◌+◌, ◌-◌, ◌*◌, ◌/◌
 use Rattle.std.specs.List.{list_any}
 use Rattle.std.specs.Float.Ieee.{size}
 use Rattle.std.specs.Int.Count.{count_leading_zeros}
-use Rattle.std.proofs.lemmas.Bool.{cases_lt, false≢true}
+use Rattle.std.proofs.lemmas.Bool.{cases_lt, false≢true, and_parts, and_from}
 use Rattle.std.proofs.lemmas.Nat.{leading_length, pow-add}
 use Rattle.std.proofs.lemmas.List.{get_or_append_left, get_or-append_right}
 use Rattle.std.proofs.lemmas.List.Elements.{All-head, All-tail}
@@ -15,10 +15,10 @@ use Rattle.siting_definitions.specs.Point.{Place, Point}
 use Rattle.siting_definitions.specs.Polygon.{vertex, origin, covers}
 use Rattle.siting_definitions.specs.Square.{Extent, IsSquare, spans, holds}
 use Rattle.siting_definitions.specs.Instance.{Instance, IsInstance, IsPolygon}
-use Rattle.siting_definitions.specs.Excluded.{bounds_of}
+use Rattle.siting_definitions.specs.Excluded.{box_of}
 use Rattle.siting_definitions.specs.Permitted.{permits}
 use Rattle.siting_definitions.specs.Sites.{vertices, span, root_of}
-use Rattle.siting_definitions.proofs.Integers.{mul_comm_ℤ, mul_assoc_ℤ, mul_le_ℤ, mul_lt_ℤ, le_trans_ℤ, le_lt_trans_ℤ, le-int_le, lt-int_lt}
+use Rattle.siting_definitions.proofs.Integers.{mul_comm_ℤ, mul_assoc_ℤ, mul_le_ℤ, scale_le_ℤ, mul_lt_ℤ, le_trans_ℤ, le_lt_trans_ℤ, le-int_le, lt-int_lt}
 use Rattle.convex_region.proofs.Boxes.{x_of, y_of}
 use Rattle.convex_region.proofs.BoxLemmas.{least-at, greatest-at, lies_in_box}
 use Rattle.site_model.specs.Box.{IsBoxWithin, square_of_box}
@@ -28,6 +28,7 @@ use Rattle.site_model.proofs.Extremes.{least_from_below, greatest_from_above}
 double : (k : ℕ) → 2 ^ (k + 1) ≡ 2 * 2 ^ k
 double k = pow-add 2 k 1 ∙ omega arith
 
+-- how many binary digits there are, by the powers of two on both sides
 size_by : (n m : ℕ) → n < 2 ^ m → 2 ^ m ≤ 2 * n + 1 → m ≡ size n
 size_by n m fits tight =
     let below = size-lt n in
@@ -42,6 +43,7 @@ size_by n m fits tight =
 digits_by : (n z m : ℕ) → count_leading_zeros 64 n + m ≡ 64 → n < 2 ^ m → 2 ^ m ≤ 2 * n + 1 → z ≡ count_leading_zeros 64 n → 64 - z ≡ size n
 digits_by n z m all fits tight zeros = omega (arith, size_by n m fits tight)
 
+-- by the zeros before them, as the code counts them
 pub digits_of : (n z : ℕ) → n < 2 ^ 64 → z ≡ count_leading_zeros 64 n → 64 - z ≡ size n
 digits_of n z fits zeros = let facts = leading_length 64 n fits in digits_by n z facts.0 facts.1 facts.2 facts.3 zeros
 
@@ -49,8 +51,9 @@ digits_of n z fits zeros = let facts = leading_length 64 n fits in digits_by n z
 span_scaled : (low high : ℤ) → unsigned_abs (pos 65536 *ℤ high -ℤ pos 65536 *ℤ low) / 65536 ≡ unsigned_abs (high -ℤ low)
 span_scaled low high = omega (arith, ints)
 
-pub root_is : (e : Extent) (ps : List (List Place)) (i : Instance) → e ≡ bounds_of (vertices ps) → i.permitted ≡ ps → square_of_box e ≡ root_of i
-unfolding bounds_of root_of
+-- the square of the box round all permitted polygons is the starting square
+pub root_is : (e : Extent) (ps : List (List Place)) (i : Instance) → e ≡ box_of (vertices ps) → i.permitted ≡ ps → square_of_box e ≡ root_of i
+unfolding box_of root_of
 root_is e ps i box same =
     let xs = map x_of (vertices ps) in
     let ys = map y_of (vertices ps) in
@@ -66,6 +69,7 @@ corner_fits x side small short = omega (arith, ints)
 corner_fits_below : (x : ℤ) → unsigned_abs x ≤ 65536000000 → (pos 0) ≤ℤ (x +ℤ pos (2 ^ 38))
 corner_fits_below x small = omega (arith, ints)
 
+-- the square of a box within the limits is within the limits
 pub IsSquare-over : (e : Extent) → IsBoxWithin e → IsSquare (square_of_box e)
 IsSquare-over e box =
     let width = unsigned_abs (e.x1 -ℤ e.x0) / 65536 in
@@ -95,6 +99,7 @@ pub record Holder (ps : List (List Place)) (vs : List Place) (p : Point) : Type 
   pub polygon : IsPolygon vs
   pub part : (k : ℕ) → k < length vs → (m : ℕ) × (m < length (vertices ps)) × (vertex (vertices ps) m ≡ vertex vs k)
 
+-- what holds a point among some polygons holds it among more
 later : (us vs : List Place) (ps : List (List Place)) (p : Point) → Holder ps vs p → Holder (us ∷ ps) vs p
 later us vs ps p h = record {
   covered = h.covered;
@@ -147,9 +152,6 @@ greatest_of_all h ps vs p holder =
     subst (λ v. (h v) ≤ℤ (greatest (map h (vertices ps)))) at.2 (greatest-at h (vertices ps) at.0 at.1))
 
 -- ---- the law
-scaled_le : (q : ℕ) (a b : ℤ) → a ≤ℤ b → (pos q *ℤ a) ≤ℤ (pos q *ℤ b)
-scaled_le q a b h = let e : (a *ℤ pos q) ≤ℤ (b *ℤ pos q) = mul_le_ℤ a b q h in omega (arith, ints, e, mul_comm_ℤ (pos q) a, mul_comm_ℤ (pos q) b)
-
 scaled_lt : (q : ℕ) (a b : ℤ) → 1 ≤ q → a <ℤ b → (pos q *ℤ a) <ℤ (pos q *ℤ b)
 scaled_lt q a b one h = let e : (a *ℤ pos q) <ℤ (b *ℤ pos q) = mul_lt_ℤ a b q one h in omega (arith, ints, e, mul_comm_ℤ (pos q) a, mul_comm_ℤ (pos q) b)
 
@@ -173,9 +175,6 @@ below_in_grid_units q s a v h =
 within_span : (low high : ℤ) (s : ℕ) → unsigned_abs (high -ℤ low) < s → high <ℤ (low +ℤ pos s)
 within_span low high s short = omega (arith, ints)
 
-both_true : (a b : Bool) → a ≡ true → b ≡ true → (a && b) ≡ true
-both_true a b e f = ap (λ c. c && b) e ∙ f
-
 side_is : (n : ℕ) → 2 ^ (16 + n) ≡ 65536 * 2 ^ n
 side_is n = pow-add 2 16 n
 
@@ -185,17 +184,14 @@ axis low high v q n one short above below =
     let under : high <ℤ (low +ℤ pos (2 ^ n)) = within_span low high (2 ^ n) short in
     let strict : v <ℤ (pos q *ℤ (low +ℤ pos (2 ^ n))) = le_lt_trans_ℤ v _ _ below (scaled_lt q high (low +ℤ pos (2 ^ n)) one under) in
     let on_grid = below_in_grid_units q (2 ^ n) low v strict in
-    both_true _ _ (le-int_le _ _ (in_grid_units q low v above))
+    and_from _ _ (le-int_le _ _ (in_grid_units q low v above))
     (lt-int_lt _ _ (subst (λ m. (pos 65536 *ℤ v) <ℤ (pos q *ℤ (pos 65536 *ℤ low +ℤ pos m))) (sym (side_is n)) on_grid))
 
-left_true : (a b : Bool) → (a && b) ≡ true → a ≡ true
-left_true true b e = refl
-left_true false b e = e
-
+-- the starting square holds each permitted point
 pub root_holds : (i : Instance) (p : Point) → IsInstance i → permits i p ≡ true → holds (root_of i) p ≡ true
 unfolding permits holds root_of
 root_holds i p limits permitted =
-    let found = holder i.permitted p limits.permitted (left_true _ _ permitted) in
+    let found = holder i.permitted p limits.permitted (and_parts _ _ permitted).0 in
     let all = vertices i.permitted in
     let xs = map x_of all in
     let ys = map y_of all in
@@ -203,10 +199,23 @@ root_holds i p limits permitted =
     let digits = size-lt (span all) in
     let wide : unsigned_abs (greatest xs -ℤ least xs) < 2 ^ size (span all) = omega (arith, digits) in
     let high : unsigned_abs (greatest ys -ℤ least ys) < 2 ^ size (span all) = omega (arith, digits) in
-    both_true _ _
+    and_from _ _
     (axis (least xs) (greatest xs) p.x p.q (size (span all)) p.q_pos wide
-    (le_trans_ℤ _ _ _ (scaled_le p.q _ _ (least_of_all x_of i.permitted found.0 p found.1)) box.left)
-    (le_trans_ℤ _ _ _ box.right (scaled_le p.q _ _ (greatest_of_all x_of i.permitted found.0 p found.1))))
+    (le_trans_ℤ _ _ _ (scale_le_ℤ p.q _ _ (least_of_all x_of i.permitted found.0 p found.1)) box.left)
+    (le_trans_ℤ _ _ _ box.right (scale_le_ℤ p.q _ _ (greatest_of_all x_of i.permitted found.0 p found.1))))
     (axis (least ys) (greatest ys) p.y p.q (size (span all)) p.q_pos high
-    (le_trans_ℤ _ _ _ (scaled_le p.q _ _ (least_of_all y_of i.permitted found.0 p found.1)) box.lower)
-    (le_trans_ℤ _ _ _ box.upper (scaled_le p.q _ _ (greatest_of_all y_of i.permitted found.0 p found.1))))
+    (le_trans_ℤ _ _ _ (scale_le_ℤ p.q _ _ (least_of_all y_of i.permitted found.0 p found.1)) box.lower)
+    (le_trans_ℤ _ _ _ box.upper (scale_le_ℤ p.q _ _ (greatest_of_all y_of i.permitted found.0 p found.1))))
+
+-- ---- its side
+-- the extent is below the side in whole lengths
+pub root_above : (i : Instance) → span (vertices i.permitted) < 2 ^ ((root_of i).level - 16)
+unfolding root_of
+root_above i =
+    let same : (16 + size (span (vertices i.permitted))) - 16 ≡ size (span (vertices i.permitted)) = omega arith in
+    rw same (size-lt (span (vertices i.permitted)))
+
+-- and below no lesser power of two
+pub root_least : (i : Instance) (k : ℕ) → span (vertices i.permitted) < 2 ^ k → (root_of i).level ≤ 16 + k
+unfolding root_of
+root_least i k above = omega (arith, size-le (span (vertices i.permitted)) k above)

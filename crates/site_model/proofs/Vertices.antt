@@ -10,11 +10,11 @@ use Rattle.siting_definitions.specs.Point.{Place}
 use Rattle.siting_definitions.specs.Polygon.{origin}
 use Rattle.siting_definitions.specs.Square.{Extent}
 use Rattle.siting_definitions.specs.Instance.{IsPlace, IsPolygon}
-use Rattle.siting_definitions.specs.Excluded.{bounds_of}
+use Rattle.siting_definitions.specs.Excluded.{box_of}
 use Rattle.siting_definitions.specs.Sites.{vertices}
 use Rattle.convex_region.proofs.Boxes.{x_of, y_of}
 use Rattle.convex_region.proofs.BoxLemmas.{least-at, greatest-at}
-use Rattle.site_model.specs.Box.{IsBoxWithin, join}
+use Rattle.site_model.specs.Box.{IsBoxWithin, box_round}
 use Rattle.site_model.proofs.Extremes.{least-append, greatest-append, min_scaled, max_scaled, least_from_below, greatest_from_above}
 
 -- ---- one polygon more
@@ -24,11 +24,13 @@ vertices-more ps i d within =
     ∙ flat_map-append (λ (vs : List Place). vs) (take i ps) (get_or ps i d ∷ [])
     ∙ ap (λ ws. vertices (take i ps) ++ ws) (append-nil (get_or ps i d))
 
+-- some polygons have some vertices
 pub some_vertices : (ps : List (List Place)) → 0 < length ps → All IsPolygon ps → 0 < length (vertices ps)
 some_vertices [] some polygons = absurd (omega arith)
 some_vertices (vs ∷ ps) some polygons =
     let few = (All-head IsPolygon vs ps polygons).few in omega (arith, length-append vs (vertices ps))
 
+-- which are within the limits
 pub places_of : (ps : List (List Place)) → All IsPolygon ps → All IsPlace (vertices ps)
 places_of [] polygons = All-nil IsPlace
 places_of (vs ∷ ps) polygons =
@@ -47,24 +49,25 @@ greatest_joined h us vs some more =
     ∙ ap (λ z. pos 65536 *ℤ z) (greatest-append (map h us) (map h vs) (omega (arith, length-map us h)) (omega (arith, length-map vs h)))
     ∙ max_scaled (greatest (map h us)) (greatest (map h vs))
 
-pub bounds_of-append : (us vs : List Place) → 0 < length us → 0 < length vs → bounds_of (us ++ vs) ≡ join (bounds_of us) (bounds_of vs)
-unfolding bounds_of
+pub bounds_of-append : (us vs : List Place) → 0 < length us → 0 < length vs → box_of (us ++ vs) ≡ box_round (box_of us) (box_of vs)
+unfolding box_of
 bounds_of-append us vs some more =
     rw (least_joined x_of us vs some more, least_joined y_of us vs some more, greatest_joined x_of us vs some more, greatest_joined y_of us vs some more) refl
 
-pub bounds-more : (ps : List (List Place)) (i : ℕ) (vs : List Place) (e f : Extent) → i < length ps → 1 ≤ i → All IsPolygon (take i ps) → vs ≡ get_or ps i vs → IsPolygon vs → e ≡ bounds_of (vertices (take i ps)) → f ≡ join e (bounds_of vs) → f ≡ bounds_of (vertices (take (i + 1) ps))
+-- the box with one polygon more
+pub bounds-more : (ps : List (List Place)) (i : ℕ) (vs : List Place) (e f : Extent) → i < length ps → 1 ≤ i → All IsPolygon (take i ps) → vs ≡ get_or ps i vs → IsPolygon vs → e ≡ box_of (vertices (take i ps)) → f ≡ box_round e (box_of vs) → f ≡ box_of (vertices (take (i + 1) ps))
 bounds-more ps i vs e f within some polygons at polygon before now =
     let few = polygon.few in
     let first = some_vertices (take i ps) (omega (arith, length-take i ps)) polygons in
     now
-    ∙ ap (λ b. join b (bounds_of vs)) before
+    ∙ ap (λ b. box_round b (box_of vs)) before
     ∙ sym (bounds_of-append (vertices (take i ps)) vs first (omega arith))
-    ∙ ap (λ us. bounds_of (vertices (take i ps) ++ us)) at
-    ∙ ap bounds_of (sym (vertices-more ps i vs within))
+    ∙ ap (λ us. box_of (vertices (take i ps) ++ us)) at
+    ∙ ap box_of (sym (vertices-more ps i vs within))
 
 -- ---- limits
-pub IsBoxWithin-bounds : (vs : List Place) → 0 < length vs → All IsPlace vs → IsBoxWithin (bounds_of vs)
-unfolding bounds_of
+pub IsBoxWithin-bounds : (vs : List Place) → 0 < length vs → All IsPlace vs → IsBoxWithin (box_of vs)
+unfolding box_of
 IsBoxWithin-bounds vs some places =
     let first = All-get_or IsPlace vs 0 origin some places in
     let x_low = least_from_below x_of (negsuc 999999) vs some (λ k within. let p = (All-get_or IsPlace vs k origin within places).x in omega (arith, ints, p)) in

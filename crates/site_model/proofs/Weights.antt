@@ -5,9 +5,11 @@ use Rattle.std.proofs.lemmas.Int.{to_z-of_z}
 use Rattle.std.proofs.lemmas.List.Sums.{sum_by_more, sum_by-take-le}
 use Rattle.siting_definitions.specs.Instance.{DemandPt, weight}
 
+-- the weight of a point
 abbrev pub w_of : DemandPt → ℤ
 w_of d = d.w
 
+-- the sizes of the first i weights, added
 abbrev pub weight_to : List DemandPt → ℕ → ℕ
 weight_to ds i = sum_by (λ (d : DemandPt). unsigned_abs d.w) (take i ds)
 
@@ -18,10 +20,12 @@ weight_to-more ds i d sum size w within at before read fits same =
     ∙ ap (λ n. weight_to ds i + n) (read ∙ ap unsigned_abs (to_z-of_z w64 w fits ∙ same ∙ ap w_of at))
     ∙ sym (sum_by_more (λ (d : DemandPt). unsigned_abs d.w) ds i d within)
 
+-- they are at most those of all
 pub weight_to-le : (ds : List DemandPt) (i : ℕ) → weight_to ds i ≤ weight ds
 unfolding weight
 weight_to-le ds i = sum_by-take-le (λ (d : DemandPt). unsigned_abs d.w) ds i
 
+-- and with all points they are those
 pub weight_to-all : (ds : List DemandPt) (n : ℕ) → length ds ≤ n → weight_to ds n ≡ weight ds
 unfolding weight
 weight_to-all ds n whole = ap (λ es. sum_by (λ (d : DemandPt). unsigned_abs d.w) es) (take_all n ds whole)

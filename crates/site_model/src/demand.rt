@@ -3,6 +3,7 @@
 ghost use Rattle.std.specs.Prelude.{◌≡◌, ◌≤◌, pos, All, length};
 ghost use Rattle.siting_definitions.specs.Instance as instances;
 ghost use Rattle.siting_definitions.specs.Instance.{IsDemandPt, weight};
+ghost use Rattle.siting_definitions.specs.declared.TheConstants.{WEIGHT_LIMIT};
 
 use std::marker::Model;
 
@@ -44,7 +45,7 @@ impl DemandPt {
 
 /// The sum of the sizes of the weights.
 pub(crate) fn weight_of(points: &[DemandPt]) -> i64
-    requires { weight points.now ≤ 16000000 }
+    requires { weight points.now ≤ WEIGHT_LIMIT }
     ensures value { result ≡ pos (weight points.now) }
     ensures points { All IsDemandPt points.now }
 {

@@ -1,13 +1,14 @@
 //! An instance, and which points it permits.
 
-ghost use Rattle.std.specs.Prelude.{◌≡◌, ◌≤◌, pos, length, All, is_some};
+ghost use Rattle.std.specs.Prelude.{◌≡◌, ◌≤◌, pos, length, All};
 ghost use Rattle.std.specs.List.{list_any};
 ghost use Rattle.siting_definitions.specs.Point.{point_of};
 ghost use Rattle.siting_definitions.specs.Polygon.{covers, covers_inside};
-ghost use Rattle.siting_definitions.specs.Instance as instances;
 ghost use Rattle.siting_definitions.specs.Instance.{IsInstance, IsPolygon, weight};
 ghost use Rattle.siting_definitions.specs.Permitted.{permits};
 ghost use Rattle.siting_definitions.specs.Sites.{root_of};
+ghost use Rattle.siting_definitions.specs.InstanceText.{has_cutoff};
+ghost use Rattle.siting_definitions.specs.declared.TheConstants.{POINT_LIMIT, WEIGHT_LIMIT, POLYGON_LIMIT};
 
 use crate::demand::{DemandPt, weight_of};
 use crate::root::root_over;
@@ -32,13 +33,13 @@ pub struct Instance {
 
 impl Model for Instance {
     ghost use Rattle.siting_definitions.specs.Instance as instances;
-    ghost use Rattle.site_model.specs.Inside.{Fits};
+    ghost use Rattle.site_model.specs.Instance.{instance_of, InstanceFits};
 
     ghost Value = { instances.Instance };
 
-    ghost view = { λ a. record { kind = a.kind; points = a.points.items; permitted = a.permitted.items; forbidden = a.forbidden.items } };
+    ghost view = { instance_of };
 
-    ghost invariant = { λ a. Fits (record { kind = a.kind; points = a.points.items; permitted = a.permitted.items; forbidden = a.forbidden.items }) a.weight a.root };
+    ghost invariant = { λ a. InstanceFits (instance_of a) a.weight a.root };
 }
 
 /// A copy is the same instance. It takes memory, so it may fail.
@@ -69,13 +70,18 @@ impl Instance {
         forbidden: Vec<Polygon>,
     ) -> Instance
         requires few_points { 1 ≤ length points.items }
-        requires many_points { length points.items ≤ 4096 }
-        requires weight { weight points.items ≤ 16000000 }
+        requires many_points { length points.items ≤ POINT_LIMIT }
+        requires weight { weight points.items ≤ WEIGHT_LIMIT }
         requires few_permitted { 1 ≤ length permitted.items }
-        requires many_permitted { length permitted.items ≤ 64 }
-        requires many_forbidden { length forbidden.items ≤ 64 }
+        requires many_permitted { length permitted.items ≤ POLYGON_LIMIT }
+        requires many_forbidden { length forbidden.items ≤ POLYGON_LIMIT }
 
-        ensures { result ≡ record { kind = kind; points = points.items; permitted = permitted.items; forbidden = forbidden.items } }
+        ensures { result ≡ record {
+          kind = kind;
+          points = points.items;
+          permitted = permitted.items;
+          forbidden = forbidden.items;
+        } }
     {
         let weight = weight_of(points.as_slice());
         let root = root_over(permitted.as_slice());
@@ -121,7 +127,7 @@ impl Instance {
 
     /// Whether some demand point has a cutoff.
     pub fn has_cutoff(&self) -> bool
-        ensures { result ≡ list_any (λ (d : instances.DemandPt). is_some d.cutoff) self.now.points }
+        ensures { result ≡ has_cutoff self.now }
     {
         self.points.iter().any(|point| point.cutoff.is_some())
     }

@@ -5,7 +5,7 @@ ghost use Rattle.std.specs.Float.Ieee.{size};
 ghost use Rattle.siting_definitions.specs.Instance.{Instance, IsPolygon};
 ghost use Rattle.siting_definitions.specs.Excluded as excluded;
 ghost use Rattle.siting_definitions.specs.Sites.{root_of, vertices};
-ghost use Rattle.site_model.specs.Box.{IsBoxWithin, join, square_of_box};
+ghost use Rattle.site_model.specs.Box.{IsBoxWithin, box_round as least_box, square_of_box};
 
 use convex_region::Polygon;
 use dyadic_square::Square;
@@ -17,7 +17,7 @@ pub(crate) fn root_over(permitted: &[Polygon]) -> Square
     ensures value { (i : Instance) → i.permitted ≡ permitted.now → result ≡ root_of i }
     ensures polygons { All IsPolygon permitted.now }
 {
-    square_over(bounds_of_all(permitted))
+    square_over(box_of_all(permitted))
 }
 
 /// The square whose corner is the box's, with the least side of a power of two of lengths above the box's sides.
@@ -27,32 +27,32 @@ fn square_over(bounds: Extent) -> Square
 {
     let width = bounds.x1.abs_diff(bounds.x0) / 65536;
     let height = bounds.y1.abs_diff(bounds.y0) / 65536;
-    Square::of(bounds.x0, bounds.y0, 16 + digits(width.max(height)))
+    Square::of(bounds.x0, bounds.y0, 16 + binary_digits(width.max(height)))
 }
 
 /// How many binary digits `n` has.
-fn digits(n: u64) -> u8
+fn binary_digits(n: u64) -> u8
     ensures { result ≡ size n }
 {
     (64 - n.leading_zeros()) as u8
 }
 
 /// The box round all the polygons, in grid units.
-fn bounds_of_all(polygons: &[Polygon]) -> Extent
+fn box_of_all(polygons: &[Polygon]) -> Extent
     requires { 1 ≤ length polygons.now }
-    ensures value { result ≡ excluded.bounds_of (vertices polygons.now) }
+    ensures value { result ≡ excluded.box_of (vertices polygons.now) }
     ensures polygons { All IsPolygon polygons.now }
 {
     let mut bounds = polygons[0].bounds();
     for i in 1..polygons.len() {
-        bounds = joined(bounds, polygons[i].bounds());
+        bounds = box_round(bounds, polygons[i].bounds());
     }
     bounds
 }
 
 /// The least box round two boxes.
-fn joined(a: Extent, b: Extent) -> Extent
-    ensures { result ≡ join a b }
+fn box_round(a: Extent, b: Extent) -> Extent
+    ensures { result ≡ least_box a b }
 {
     Extent {
         x0: a.x0.min(b.x0),

@@ -1,6 +1,1 @@
-mod FinishedMarks
-mod SplitNodes
-mod Remarking
-mod EndingLemmas
-mod ListedLemmas
 mod SearchLemmas

@@ -14,15 +14,16 @@ use Rattle.siting_definitions.specs.Bounds.{upper_of}
 use Rattle.siting_definitions.specs.Marks.{IsAtMost, IsNoneOrAtLeast, lesser}
 use Rattle.bound_heap.specs.declared.entry.Entry.{Entry}
 use Rattle.pool_core.specs.declared.stop.Stop.{Stop}
-use Rattle.pool_core.specs.declared.stop.Stop.TheVariants.{PoolFull}
+use Rattle.pool_core.specs.declared.stop.Stop.TheVariants.{PoolFull, Budget}
 use Rattle.pool_core.specs.Job.{Job, IsJob, IsOffer, cost_in}
 use Rattle.pool_core.specs.Verdict.{finding_of}
 use Rattle.pool_core.specs.State.{State, open_count}
 use Rattle.pool_core.specs.Machine.{Leases, Halts, Returns, MayReturn, IsSeen, is_kept, first_stop}
 use Rattle.pool_core.specs.Sound.{IsSound, IsPoolOf, IsFinished}
 use Rattle.pool_core.proofs.SoundSteps.{sound_lease, sound_halt, sound_offer, sound_return}
-use Rattle.site_workers.specs.Ending.{IsImproved, is_full}
-use Rattle.site_workers.specs.Search.{SearchEnds, IsBetween, better_of, centre_offer}
+use Rattle.pool_core.specs.Best.{IsImproved, better_of}
+use Rattle.pool_core.specs.Seats.{IsKeptBy, StopsWithin, is_full}
+use Rattle.site_workers.specs.Search.{SearchEnds, IsBetween, centre_offer}
 
 some≢none : {X : Type 0} (x : X) → Some x ≡ None → ⊥
 some≢none x e = grind (arith)
@@ -90,6 +91,7 @@ better-most (Some b) (Some o) = ⊎_elim (λ t. rw t (omega (arith, ints))) (λ 
     most f = grind (arith, ints)
 
 -- ---- between two leases
+-- before the first lease
 pub begun : (j : Job) (s : State) → IsJob j → IsPoolOf j s → IsBetween j s s j.start
 begun j s job h = record {
   job = h.job;
@@ -110,10 +112,10 @@ pub record IsTurn (j : Job) (e : Entry) (best best' : Option (Pt × ℤ)) (s s1 
   pub offer : MatchOption (centre_offer j.instance e.square) ⊤ (λ o. IsOffer j.instance o.0 o.1)
   pub returns : Returns e (cost_in best') (finding_of j e (cost_in best')) s1 s2
 
-sound_offered : (s : State) (best offered : Option (Pt × ℤ)) → MatchOption offered ⊤ (λ o. IsOffer s.job.instance o.0 o.1) → IsSound (record { pool = s; least = cost_in best }) → IsSound (record { pool = s; least = cost_in (better_of best offered) })
+sound_offered : (s : State) (best offered : Option (Pt × ℤ)) → MatchOption offered ⊤ (λ o. IsOffer s.job.instance o.0 o.1) → IsSound (record { state = s; incumbent = cost_in best }) → IsSound (record { state = s; incumbent = cost_in (better_of best offered) })
 sound_offered s best None h sound = sound
 sound_offered s best (Some o) h sound =
-    sound_offer o.0 (record { pool = s; least = cost_in best }) (record { pool = s; least = cost_in (better_of best (Some o)) }) (o.1, h, refl, better-cost best (Some o)) sound
+    sound_offer o.0 (record { state = s; incumbent = cost_in best }) (record { state = s; incumbent = cost_in (better_of best (Some o)) }) (o.1, h, refl, better-cost best (Some o)) sound
 
 kept_after : (kept : Bool) (n count count' : ℕ) (stop stop' : Option Stop) → stop ≡ None → count ≡ 0 → count' ≡ count + cond kept 1 0 → stop' ≡ cond kept (first_stop stop (PoolFull n)) stop → count' ≡ cond (is_full stop') 1 0
 kept_after true n count count' stop stop' none e e' f = rw (f, none) (omega (arith, e, e'))
@@ -123,6 +125,7 @@ no_length : {X : Type 0} (xs : List X) → length xs ≡ 0 → xs ≡ []
 no_length [] e = refl
 no_length (x ∷ xs) e = absurd (omega arith)
 
+-- what was leased is leased
 pub leased_one : (s s1 : State) (e : Entry) → Leases e s s1 → Contains s1.leased e
 leased_one s s1 e l = Contains-permutation (e ∷ s.leased) s1.leased e l.leased (0, omega arith, refl)
 
@@ -131,20 +134,20 @@ turned_from first s s1 s2 e best best' b t =
     let offered = centre_offer s1.job.instance e.square in
     let u = cost_in best in
     let u' = cost_in best' in
-    let leased = sound_lease e (record { pool = s; least = u }) (record { pool = s1; least = u }) (t.leases, refl) b.sound in
-    let priced : IsSound (record { pool = s1; least = u' }) = subst (λ (z : Option (Pt × ℤ)). IsSound (record { pool = s1; least = cost_in z })) (sym t.best_is) (sound_offered s1 best offered t.offer leased) in
+    let leased = sound_lease e (record { state = s; incumbent = u }) (record { state = s1; incumbent = u }) (t.leases, refl) b.sound in
+    let priced : IsSound (record { state = s1; incumbent = u' }) = subst (λ (z : Option (Pt × ℤ)). IsSound (record { state = s1; incumbent = cost_in z })) (sym t.best_is) (sound_offered s1 best offered t.offer leased) in
     let improved : IsImproved s1.job.start best' = subst (IsImproved s1.job.start) (sym t.best_is) (improved-more s1.job.start best offered b.improved) in
     let most : MatchOption (centre_cost s1.job.instance e.square) ⊤ (IsAtMost u') =
     subst (λ (o : Option ℤ). MatchOption o ⊤ (IsAtMost u')) (centre-cost s1.job.instance e.square)
     (subst (λ (z : Option (Pt × ℤ)). MatchOption (cost_in offered) ⊤ (IsAtMost (cost_in z))) (sym t.best_is) (better-most best offered)) in
-    let may : MayReturn e u' (record { pool = s1; least = u' }) = record { seen_is = seen_itself s1.job best' improved; centre = λ part. most } in
+    let may : MayReturn e u' (record { state = s1; incumbent = u' }) = record { seen_is = seen_itself s1.job best' improved; centre = λ part. most } in
     let none : s.leased ≡ [] = b.leased in
     let one : length s1.leased ≡ 1 = let p = length_permutation (e ∷ s.leased) s1.leased t.leases.leased in omega (arith, ap length none, p) in
     let rest : length s2.leased ≡ 0 = let p = length_permutation s1.leased (e ∷ s2.leased) t.returns.leased in omega (arith, one, p) in
     record {
       job = t.returns.job;
       leased = no_length s2.leased rest;
-      sound = sound_return e u' (record { pool = s1; least = u' }) (record { pool = s2; least = u' }) (may, t.returns, refl) priced;
+      sound = sound_return e u' (record { state = s1; incumbent = u' }) (record { state = s2; incumbent = u' }) (may, t.returns, refl) priced;
       best_is = subst (λ (z : Option (Pt × ℤ)). MatchOption z ⊤ (λ o. IsOffer s1.job.instance o.0 o.1)) (sym t.best_is) (better-offer s1.job.instance best offered b.best_is t.offer);
       improved = improved;
       beginning = t.returns.beginning ∙ t.leases.beginning ∙ b.beginning;
@@ -162,6 +165,7 @@ turned_from first s s1 s2 e best best' b t =
           (t.leases.kept ∙ b.kept ∙ ap (λ (stop : Option Stop). cond (is_full stop) 1 0) t.leases.going) t.returns.kept t.returns.stop;
     }
 
+-- after one more lease, judged and given back
 pub turned : (j : Job) (first s s1 s2 : State) (e : Entry) (best best' : Option (Pt × ℤ)) → IsBetween j first s best → IsTurn j e best best' s s1 s2 → IsBetween j first s2 best'
 turned j first s s1 s2 e best best' b t =
     let same : s1.job ≡ j = t.leases.job ∙ b.job in
@@ -169,8 +173,30 @@ turned j first s s1 s2 e best best' b t =
     (turned_from first s s1 s2 e best best' (subst (λ (k : Job). IsBetween k first s best) (sym same) b) (subst (λ (k : Job). IsTurn k e best best' s s1 s2) (sym same) t))
 
 -- ---- the end
-pub ends : (j : Job) (first s s' : State) (best : Option (Pt × ℤ)) → IsBetween j first s best → ((s' ≡ s) ⊎ Halts s s') → SearchEnds first j.start s' best
-ends j first s s' best b last = record { leased = b.so_far; last = s; searched = b.searched; ends = last }
+-- the end of a search
+pub ends : (j : Job) (first s s' : State) (best : Option (Pt × ℤ)) → IsBetween j first s best → ((s' ≡ s) ⊎ Halts s s') → (s'.stop ≡ None → s'.waiting ≡ []) → SearchEnds first j.start s' best
+ends j first s s' best b last ended = record { leased = b.so_far; last = s; searched = b.searched; ends = last; ended = ended }
+
+-- ---- one worker holds one square at most
+within_one : (s : State) (stop : Option Stop) → length s.leased ≡ 0 → s.kept ≡ cond (is_full stop) 1 0 → StopsWithin 1 (s.kept + length s.leased) stop
+within_one s None none kept = tt
+within_one s (Some (PoolFull count)) none kept = omega (arith, none, kept)
+within_one s (Some (Budget leases)) none kept = omega (arith, none, kept)
+
+-- a search ends within one seat
+pub kept_by_one : (s s' : State) → s.leased ≡ [] → s.kept ≡ cond (is_full s.stop) 1 0 → ((s' ≡ s) ⊎ Halts s s') → IsKeptBy s' 1
+kept_by_one s s' none kept (inl same) = subst (λ (t : State). IsKeptBy t 1) (sym same) (within_one s s.stop (ap length none) kept)
+kept_by_one s s' none kept (inr halts) =
+    let zero : s.kept ≡ 0 = kept ∙ ap (λ (stop : Option Stop). cond (is_full stop) 1 0) halts.going in
+    subst (λ (t : State). IsKeptBy t 1) (sym halts.halted) (within_one s (Some (Budget s.leases)) (ap length none) zero)
+
+-- a search that was stopped ended
+pub ended_by : (s : State) (stop : Stop) → s.stop ≡ Some stop → s.stop ≡ None → s.waiting ≡ []
+ended_by s stop said going = absurd (some≢none stop (sym said ∙ going))
+
+-- a search in which nothing waited ended as it was
+pub ended_with : (s s' : State) → s' ≡ s → s.waiting ≡ [] → s'.stop ≡ None → s'.waiting ≡ []
+ended_with s s' same none going = ap (λ (t : State). t.waiting) same ∙ none
 
 halted : (j : Job) (first s : State) (stop : Stop) (best : Option (Pt × ℤ)) → IsBetween j first s best → s.stop ≡ Some stop → IsFinished j s best
 halted j first s stop best b said = record { job = b.job; leased = b.leased; ended = λ going. absurd (some≢none stop (sym said ∙ going)); sound = b.sound; best_is = b.best_is }
@@ -185,6 +211,6 @@ stopped j first s s' stop best b said (inr halts) =
       job = ap (λ (t : State). t.job) after ∙ b.job;
       leased = ap (λ (t : State). t.leased) after ∙ b.leased;
       ended = λ going. absurd (some≢none stop (sym said ∙ going));
-      sound = sound_halt (record { pool = s; least = cost_in best }) (record { pool = s'; least = cost_in best }) (halts, refl) b.sound;
+      sound = sound_halt (record { state = s; incumbent = cost_in best }) (record { state = s'; incumbent = cost_in best }) (halts, refl) b.sound;
       best_is = b.best_is;
     }

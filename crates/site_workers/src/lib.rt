@@ -1,13 +1,10 @@
-//! The search: one worker over a pool, and the answer that it ends with.
+//! The search: one worker over a pool.
 #![tactic(auto)]
-
-mod answer;
-mod closed;
-mod worker;
-
-pub use answer::finish;
-pub use closed::Closed;
-pub use worker::alone;
 
 #[cfg(test)]
 mod tests;
+mod worker;
+
+pub use pool_core::Closed;
+pub use search_answer::finish;
+pub use worker::alone;

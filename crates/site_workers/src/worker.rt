@@ -1,16 +1,18 @@
 //! The search by one worker.
 
-ghost use Rattle.std.specs.Prelude.{◌≡◌, cond, Contains, MatchOption, ⊤};
-ghost use Rattle.pool_core.specs.Job.{IsOffer, cost_in};
+ghost use Rattle.std.specs.Prelude.{◌≡◌, if◌then◌else◌, Contains, MatchOption, ⊤};
+ghost use Rattle.pool_core.specs.Best as bests;
+ghost use Rattle.pool_core.specs.Best.{IsImproved};
+ghost use Rattle.pool_core.specs.Job as jobs;
+ghost use Rattle.pool_core.specs.Job.{IsOffer};
 ghost use Rattle.pool_core.specs.Verdict.{finding_of};
 ghost use Rattle.pool_core.specs.Machine.{Returns};
 ghost use Rattle.pool_core.specs.Sound.{IsFinished, IsPoolOf};
-ghost use Rattle.site_workers.specs.Ending.{IsImproved, is_full};
-ghost use Rattle.site_workers.specs.Search.{SearchEnds, better_of, centre_offer};
+ghost use Rattle.pool_core.specs.Seats.{IsKeptBy, is_full};
+ghost use Rattle.site_workers.specs.Search.{SearchEnds, centre_offer};
 
-use crate::closed::{Closed, upper_cost};
 use candidate_sites::centre_site;
-use pool_core::{Job, Lease, LeaseAnswer, Pool, judge};
+use pool_core::{Closed, Job, Lease, LeaseAnswer, Pool, better_of, cost_in, judge};
 use site_model::Site;
 
 /// One worker: leases squares, offers the centre site of each, judges it and gives it back, until nothing is open or there is a stop.
@@ -23,7 +25,8 @@ pub fn alone(job: &Job, pool: Pool) -> Closed
     ensures searched { SearchEnds pool job.now.start result.pool result.best }
     ensures beginning { result.pool.beginning ≡ pool.beginning }
     ensures improved { IsImproved job.now.start result.best }
-    ensures kept { result.pool.kept ≡ cond (is_full result.pool.stop) 1 0 }
+    ensures kept { result.pool.kept ≡ (if is_full result.pool.stop then 1 else 0) }
+    ensures seats { IsKeptBy result.pool 1 }
 {
     let mut pool = pool;
     let mut best = job.start;
@@ -42,24 +45,15 @@ pub fn alone(job: &Job, pool: Pool) -> Closed
 fn work(job: &Job, pool: &mut Pool, lease: Lease, best: &Option<(Site, i64)>) -> Option<(Site, i64)>
     requires job { pool.old.job ≡ job.now }
     requires leased { Contains pool.old.leased lease }
-    ensures best { result ≡ better_of best.now (centre_offer job.now.instance lease.square) }
-    ensures offer { MatchOption (centre_offer job.now.instance lease.square) ⊤ (λ o. IsOffer job.now.instance o.0 o.1) }
-    ensures returned { Returns lease (cost_in result) (finding_of job.now lease (cost_in result)) pool.old pool.new }
+    ensures best { result ≡ bests.better_of best.now (centre_offer job.now.instance lease.square) }
+    ensures offer { MatchOption (centre_offer job.now.instance lease.square) ⊤
+        (λ o. IsOffer job.now.instance o.0 o.1) }
+    ensures returned { let seen = jobs.cost_in result in
+        Returns lease seen (finding_of job.now lease seen) pool.old pool.new }
 {
     let offered = centre_site(&job.instance, lease.square());
-    let best = better(best, &offered);
-    let verdict = judge(job, &lease, upper_cost(&best));
+    let best = better_of(best, &offered);
+    let verdict = judge(job, &lease, cost_in(&best));
     pool.give_back(lease, verdict);
     best
-}
-
-/// The better of the best site and one that is offered, each with its upper cost. The best stays where the other doesn't cost less.
-fn better(best: &Option<(Site, i64)>, offered: &Option<(Site, i64)>) -> Option<(Site, i64)>
-    ensures { result ≡ better_of best.now offered.now }
-{
-    match (*best, *offered) {
-        (best, None) => best,
-        (None, offered) => offered,
-        (Some(best), Some(offered)) => Some(if offered.1 < best.1 { offered } else { best }),
-    }
 }

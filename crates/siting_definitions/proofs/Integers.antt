@@ -1,11 +1,12 @@
 -- Identities and inequalities of whole numbers. `diff a b` is a - b for two naturals; `simp diffs` turns a polynomial over
 -- such differences into one difference of naturals, on which `omega` decides.
-use Rattle.std.proofs.lemmas.Int.{by_lt_z}
+use Rattle.std.proofs.lemmas.Int.{by_lt_z, clamps}
 use Rattle.std.proofs.lemmas.Bool.{cases_lt}
 use Rattle.std.proofs.Common.{⊎_elim, sym, ◌≡◌, ℕ, ◌+◌, ◌*◌, ◌≤◌, ◌<◌, ℤ, pos, ◌+ℤ◌, ◌-ℤ◌, ◌*ℤ◌, neg_ℤ, ◌≤ℤ◌, ◌<ℤ◌, ap, arith}
 use Rattle.std.proofs.Math.Nat.{mul-le-mul_left}
 use borrow.Author.Differences.{up, down, same_in, sum_is_lem, neg_is, product_is, at_most_in, below_in, le_out, lt_out, ints, true_is_le, false_is_le, true_is_lt, false_is_lt}
-use Rattle.std.specs.Prelude.{int_le, int_lt, true, false}
+use Rattle.std.specs.Prelude.{int_le, int_lt, unsigned_abs, true, false}
+use Rattle.std.specs.Int.{int_min}
 
 pub diff : ℕ → ℕ → ℤ
 diff a b = pos a -ℤ pos b
@@ -50,15 +51,6 @@ diff-mul a b c d =
 -- a polynomial over differences as one difference
 pub ruleset diffs = (diff-add, diff-minus, diff-neg, diff-mul)
 
-pub le-diff : (a b c d : ℕ) → diff a b ≤ℤ diff c d → a + d ≤ c + b
-le-diff a b c d h = omega (arith, diff-parts a b, diff-parts c d, le_out _ _ h)
-
-pub diff-le : (a b c d : ℕ) → a + d ≤ c + b → diff a b ≤ℤ diff c d
-diff-le a b c d h = at_most_in _ _ (omega (arith, diff-parts a b, diff-parts c d))
-
-pub lt-diff : (a b c d : ℕ) → diff a b <ℤ diff c d → a + d < c + b
-lt-diff a b c d h = omega (arith, diff-parts a b, diff-parts c d, lt_out _ _ h)
-
 pub diff-lt : (a b c d : ℕ) → a + d < c + b → diff a b <ℤ diff c d
 diff-lt a b c d h = below_in _ _ (omega (arith, diff-parts a b, diff-parts c d))
 
@@ -97,9 +89,6 @@ le_refl_ℤ a = omega (arith, ints)
 pub le_trans_ℤ : (a b c : ℤ) → a ≤ℤ b → b ≤ℤ c → a ≤ℤ c
 le_trans_ℤ a b c h k = omega (arith, ints)
 
-pub lt_le_trans_ℤ : (a b c : ℤ) → a <ℤ b → b ≤ℤ c → a <ℤ c
-lt_le_trans_ℤ a b c h k = omega (arith, ints)
-
 pub le_lt_trans_ℤ : (a b c : ℤ) → a ≤ℤ b → b <ℤ c → a <ℤ c
 le_lt_trans_ℤ a b c h k = omega (arith, ints)
 
@@ -108,6 +97,12 @@ pub mul_le_ℤ : (a b : ℤ) (n : ℕ) → a ≤ℤ b → (a *ℤ pos n) ≤ℤ 
 mul_le_ℤ a b n h =
     let e : n * (up a + down b) ≤ n * (up b + down a) = mul-le-mul_left n (le_out a b h) in
     at_most_in _ _ (omega (arith, e, product_is a (pos n), product_is b (pos n)))
+
+-- the same, with the natural on the left
+pub scale_le_ℤ : (n : ℕ) (a b : ℤ) → a ≤ℤ b → (pos n *ℤ a) ≤ℤ (pos n *ℤ b)
+scale_le_ℤ n a b h =
+    let e : (a *ℤ pos n) ≤ℤ (b *ℤ pos n) = mul_le_ℤ a b n h in
+    omega (arith, ints, e, mul_comm_ℤ (pos n) a, mul_comm_ℤ (pos n) b)
 
 pub mul_lt_ℤ : (a b : ℤ) (n : ℕ) → 1 ≤ n → a <ℤ b → (a *ℤ pos n) <ℤ (b *ℤ pos n)
 mul_lt_ℤ a b n one h =
@@ -125,6 +120,13 @@ square_le m n h = omega (arith, mul-le-mul_left m h, mul-le-mul_left n h)
 pub square_cancel_le : (m n : ℕ) → m * m ≤ n * n → m ≤ n
 square_cancel_le m n h =
     ⊎_elim (λ less. let more : (n + 1) * (n + 1) ≤ m * m = square_le (n + 1) m (omega arith) in absurd (omega arith)) (λ le. le) (cases_lt n m)
+
+-- ---- the size of a number
+pub size_of_nonneg : (z : ℤ) → pos 0 ≤ℤ z → pos (unsigned_abs z) ≡ z
+size_of_nonneg z h = same_in _ _ (omega (arith, ints))
+
+pub le_size : (n : ℕ) (z : ℤ) → pos n ≤ℤ z → n ≤ unsigned_abs z
+le_size n z h = omega (arith, ints)
 
 -- ---- what a test means
 pub int_le-true : (a b : ℤ) → int_le a b ≡ true → a ≤ℤ b
@@ -150,3 +152,7 @@ lt-int_lt a b h = sym (true_is_lt a b (lt_out a b h))
 
 pub le-int_lt : (a b : ℤ) → b ≤ℤ a → int_lt a b ≡ false
 le-int_lt a b h = sym (false_is_lt a b (le_out b a h))
+
+-- ---- the lesser of two
+pub int_min-assoc : (a b c : ℤ) → int_min (int_min a b) c ≡ int_min a (int_min b c)
+int_min-assoc a b c = same_in _ _ (omega (arith, ints, clamps))

@@ -1,3 +1,4 @@
 pub mod Integers
 pub mod Totals
 pub mod CostLemmas
+pub mod MarkLemmas

@@ -1,8 +1,10 @@
 -- Laws of a total, for both kinds: it keeps the order of its terms, it is multiplied with them, it rises no more than they
 -- do together, and its size is at most theirs together.
-use Rattle.std.proofs.Common.{◌≡◌, ℕ, ◌+◌, ℤ, pos, ◌+ℤ◌, ◌*ℤ◌, ◌≤ℤ◌, List, [], ◌∷◌, map, fold, refl, sym, ap, ◌∙◌, arith}
+use Rattle.std.proofs.Common.{◌≡◌, ℕ, ◌+◌, ℤ, pos, ◌+ℤ◌, ◌*ℤ◌, ◌≤ℤ◌, List, [], ◌∷◌, ◌++◌, map, fold, Bool, cond, refl, sym, ap, ◌∙◌, arith}
 use Rattle.std.specs.Prelude.{⊤}
+use Rattle.std.specs.List.{count_by}
 use Rattle.std.specs.Int.{int_max}
+use Rattle.std.proofs.lemmas.List.Sums.{sum_by-append}
 use Rattle.std.proofs.lemmas.Int.{clamps, by_lt_z}
 use borrow.Author.Differences.{ints, same_in}
 use Rattle.siting_definitions.specs.declared.Kind.{Kind}
@@ -118,3 +120,7 @@ total-drift Max [] (w ∷ ws) es h = absurd h
 total-drift Max (z ∷ zs) [] es h = absurd h
 total-drift Max (z ∷ zs) (w ∷ ws) [] h = absurd h
 total-drift Max (z ∷ zs) (w ∷ ws) (e ∷ es) h = max-drift z w e zs ws es h.0 h.1
+
+-- ---- counting
+pub count_by-append : {X : Type 0} (p : X → Bool) (xs ys : List X) → count_by p (xs ++ ys) ≡ count_by p xs + count_by p ys
+count_by-append p xs ys = sum_by-append (λ x. cond (p x) 1 0) xs ys

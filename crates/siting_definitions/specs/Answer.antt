@@ -1,6 +1,7 @@
 -- Answers, and when an answer is valid.
-use Rattle.std.specs.Prelude.{◌≡◌, ℕ, ◌+◌, ◌*◌, ◌^◌, ◌<◌, ◌≤◌, ◌==◌, ℤ, pos, ◌≤ℤ◌, unsigned_abs, Bool, true, false, cond, not, is_some, List, All, Option, Some, None, option_map, MatchOption, FitsSigned, IsTrue, ⊤}
+use Rattle.std.specs.Prelude.{◌≡◌, ℕ, ◌+◌, ◌*◌, ◌^◌, ◌<◌, ◌≤◌, ◌==◌, ℤ, pos, ◌≤ℤ◌, unsigned_abs, Bool, true, false, if◌then◌else◌, not, is_some, List, All, Option, Some, None, option_map, MatchOption, FitsSigned, IsTrue, ⊤}
 use Rattle.std.specs.Int.{w64}
+use Rattle.siting_definitions.specs.declared.TheConstants.{GAP_LIMIT, BUDGET_LIMIT, POOL_LIMIT}
 use Rattle.siting_definitions.specs.declared.Mark.{Mark}
 use Rattle.siting_definitions.specs.declared.Mark.TheVariants.{Split, Shut, Bounded, Floor as FloorMark, Left}
 use Rattle.siting_definitions.specs.declared.Word.{Word}
@@ -52,14 +53,14 @@ pub record IsBest (b : Best) : Type 0 where
 pub record IsHead (h : Head) : Type 0 where
   pub instance : IsInstance h.instance
   pub gap_least : pos 0 ≤ℤ h.gap
-  pub gap_most : h.gap ≤ℤ pos (2 ^ 62)
-  pub budget : h.budget ≤ 1000000
+  pub gap_most : h.gap ≤ℤ pos GAP_LIMIT
+  pub budget : h.budget ≤ BUDGET_LIMIT
   pub pool_least : 1 ≤ h.pool
-  pub pool_most : h.pool ≤ 1000000
+  pub pool_most : h.pool ≤ POOL_LIMIT
   pub best : MatchOption h.best ⊤ IsBest
   pub bound : MatchOption h.bound ⊤ (FitsSigned w64)
-  pub open_count : h.open_count ≤ 1000000
-  pub leases : h.leases ≤ 1000000
+  pub open_count : h.open_count ≤ POOL_LIMIT
+  pub leases : h.leases ≤ BUDGET_LIMIT
 
 -- the range of a mark's number
 abbrev pub IsMark : Mark → Type 0
@@ -112,12 +113,16 @@ is_stopped Empty = false
 -- whether the word is the one that the marks call for
 abbrev pub has_word : Word → Tally → Bool
 has_word word t =
-    cond (not (is_some t.least)) (is_empty word)
-    (cond (t.open_leaves + t.floor_leaves == 0) (is_solved word) (cond (t.open_leaves == 0) (is_floored word) (is_stopped word)))
+    if not (is_some t.least) then is_empty word
+    else if t.open_leaves + t.floor_leaves == 0 then is_solved word
+    else if t.open_leaves == 0 then is_floored word
+    else is_stopped word
 
 abbrev pub WordCounts : Head → Tally → Word → Type 0
 WordCounts h t Solved = h.open_count ≡ 0
-WordCounts h t PoolFull = (1 ≤ h.open_count) × (h.open_count ≤ h.pool) × (h.pool < h.open_count + 3) × (h.open_count ≤ t.leaves)
+WordCounts h t PoolFull =
+    (1 ≤ h.open_count) × (h.open_count ≤ h.pool) × (h.pool < h.open_count + 3)
+    × (h.open_count ≤ t.leaves)
 WordCounts h t Budget = (h.leases ≡ h.budget) × (h.open_count ≡ 0)
 WordCounts h t Floor = h.open_count ≡ 0
 WordCounts h t Empty = h.open_count ≡ 0
@@ -139,7 +144,9 @@ pub record IsValid (a : Answer) : Type 0 where
   pub ranges : IsHead a.head
   pub mark_ranges : All IsMark a.marks
   pub head : HeadFits a.head
-  pub tree : (t : Tree) × AreMarks a.head.instance a.head.gap (upper_cost a.head.best) t (root_of a.head.instance) a.marks
+  pub tree : (t : Tree)
+      × AreMarks a.head.instance a.head.gap (upper_cost a.head.best) t (root_of a.head.instance)
+      a.marks
   pub end_fits : EndFits a.head (tally_of a.marks)
 
 abbrev pub WorkFits : Head → Tally → ℕ → Word → Type 0
@@ -149,8 +156,8 @@ WorkFits h t workers Budget = h.leases + t.open_leaves + 1 ≤ 2 * t.nodes + wor
 WorkFits h t workers Floor = ⊤
 WorkFits h t workers Empty = ⊤
 
--- An answer that was stopped shows its work. Of a stop at the budget all leases but one less than there are workers, and of a
--- full pool all but as many as there are workers, gave a square its mark or raised it. A square that isn't an open leaf takes
--- two leases at most, and an open leaf one.
+-- An answer that was stopped shows its work. Of a stop at the budget all leases but one less than
+-- there are workers, and of a full pool all but as many as there are workers, gave a square its
+-- mark or raised it. A square that isn't an open leaf takes two leases at most, and an open leaf one.
 abbrev pub IsWorkedBy : Answer → ℕ → Type 0
 IsWorkedBy a workers = WorkFits a.head (tally_of a.marks) workers a.head.word

@@ -35,7 +35,8 @@ word_field Floor = codes "floor"
 word_field Empty = codes "empty"
 
 abbrev pub root_line : Square → List (List ℕ)
-root_line s = codes "root" ∷ signed_decimal s.x ∷ signed_decimal s.y ∷ signed_decimal (pos s.level) ∷ []
+root_line s =
+    codes "root" ∷ signed_decimal s.x ∷ signed_decimal s.y ∷ signed_decimal (pos s.level) ∷ []
 
 abbrev pub mark_line : Mark → List (List ℕ)
 mark_line (Split None) = codes "S" ∷ codes "-" ∷ []
@@ -63,7 +64,8 @@ head_lines h =
 abbrev pub answer_lines : Answer → List (List (List ℕ))
 answer_lines a =
     (codes "siting" ∷ codes "answer" ∷ version_field a.head.instance ∷ [])
-    ∷ (instance_lines a.head.instance ++ (head_lines a.head ++ (map mark_line a.marks ++ (codes "end" ∷ []) ∷ [])))
+    ∷ (instance_lines a.head.instance
+    ++ (head_lines a.head ++ (map mark_line a.marks ++ (codes "end" ∷ []) ∷ [])))
 
 unfoldable pub answer_text : Answer → List ℕ
 answer_text a = text_of (answer_lines a)

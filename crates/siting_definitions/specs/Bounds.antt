@@ -1,5 +1,5 @@
 -- The numbers that the solver computes: squared distances, bounds of a square, costs of a site.
-use Rattle.std.specs.Prelude.{ℕ, ◌+◌, ◌*◌, ◌^◌, min, max, ℤ, pos, ◌+ℤ◌, ◌-ℤ◌, ◌*ℤ◌, int_lt, unsigned_abs, cond, map, Option, Some, None}
+use Rattle.std.specs.Prelude.{ℕ, ◌+◌, ◌*◌, ◌^◌, min, max, ℤ, pos, ◌+ℤ◌, ◌-ℤ◌, ◌*ℤ◌, int_lt, unsigned_abs, if◌then◌else◌, map, Option, Some, None}
 use Rattle.std.specs.Int.{int_max}
 use Rattle.siting_definitions.specs.Integer.{square_of, round_down, round_up}
 use Rattle.siting_definitions.specs.Root.{floor_root, ceil_root}
@@ -12,13 +12,15 @@ use Rattle.siting_definitions.specs.Cost.{distance2, total_of}
 abbrev pub near_on : ℤ → ℕ → ℤ → ℤ
 near_on low len a = int_max (pos 0) (int_max (low -ℤ a) (a -ℤ (low +ℤ pos len)))
 
--- on one axis, in grid units: how far a lies from the farther end of the interval from low to low + len
+-- on one axis, in grid units: how far a lies from the farther end of that interval
 abbrev pub far_on : ℤ → ℕ → ℤ → ℕ
 far_on low len a = max (unsigned_abs (low -ℤ a)) (unsigned_abs ((low +ℤ pos len) -ℤ a))
 
 -- the least squared distance from a to the closed square, in grid units squared
 unfoldable pub near2 : Square → Place → ℕ
-near2 s a = square_of (near_on s.x (2 ^ s.level) (pos 65536 *ℤ a.x)) + square_of (near_on s.y (2 ^ s.level) (pos 65536 *ℤ a.y))
+near2 s a =
+    square_of (near_on s.x (2 ^ s.level) (pos 65536 *ℤ a.x))
+    + square_of (near_on s.y (2 ^ s.level) (pos 65536 *ℤ a.y))
 
 -- the greatest squared distance from a to the closed square, in grid units squared
 unfoldable pub far2 : Square → Place → ℕ
@@ -33,12 +35,13 @@ capped (Some c) unit r = min r (unit * unsigned_abs c)
 
 -- the first where the point attracts, the second where it repels
 abbrev pub by_sign : DemandPt → ℕ → ℕ → ℕ
-by_sign d attracting repelling = cond (int_lt (pos 0) d.w) attracting repelling
+by_sign d attracting repelling = if int_lt (pos 0) d.w then attracting else repelling
 
 -- in grid units
 unfoldable pub coarse_radius : Square → DemandPt → ℕ
 coarse_radius s d =
-    by_sign d (capped d.cutoff 65536 (floor_root (near2 s (place_of d)))) (capped d.cutoff 65536 (ceil_root (far2 s (place_of d))))
+    by_sign d (capped d.cutoff 65536 (floor_root (near2 s (place_of d))))
+    (capped d.cutoff 65536 (ceil_root (far2 s (place_of d))))
 
 -- in units of 1 / 65536 grid units, as the two below
 unfoldable pub fine_radius : Square → DemandPt → ℕ

@@ -10,13 +10,19 @@ use Rattle.siting_definitions.specs.Instance.{DemandPt, Instance, place_of}
 unfoldable pub distance2 : Place → Point → ℕ
 distance2 a p = square_of (p.x -ℤ pos p.q *ℤ a.x) + square_of (p.y -ℤ pos p.q *ℤ a.y)
 
--- the radius r, in units of 1 / (k q) lengths, is at least the distance from p to d, or at least d's cutoff
+-- the radius r, in units of 1 / (k q) lengths, is at least the distance from p to d, or at least
+-- d's cutoff
 abbrev pub IsAbove : DemandPt → Point → ℕ → ℕ → Type 0
-IsAbove d p k r = (k * k * distance2 (place_of d) p ≤ r * r) ⊎ MatchOption d.cutoff ⊥ (λ c. k * p.q * unsigned_abs c ≤ r)
+IsAbove d p k r =
+    (k * k * distance2 (place_of d) p ≤ r * r)
+    ⊎ MatchOption d.cutoff ⊥ (λ c. k * p.q * unsigned_abs c ≤ r)
 
--- the radius r, in units of 1 / (k q) lengths, is at most the distance from p to d, and at most d's cutoff
+-- the radius r, in units of 1 / (k q) lengths, is at most the distance from p to d, and at most
+-- d's cutoff
 abbrev pub IsBelow : DemandPt → Point → ℕ → ℕ → Type 0
-IsBelow d p k r = (r * r ≤ k * k * distance2 (place_of d) p) × MatchOption d.cutoff ⊤ (λ c. r ≤ k * p.q * unsigned_abs c)
+IsBelow d p k r =
+    (r * r ≤ k * k * distance2 (place_of d) p)
+    × MatchOption d.cutoff ⊤ (λ c. r ≤ k * p.q * unsigned_abs c)
 
 -- a radius that makes the cost of p no less than it is
 pub record IsHighAt (d : DemandPt) (p : Point) (k r : ℕ) : Type 0 where
@@ -58,8 +64,12 @@ total_of i rs = total i.kind (terms i.points rs)
 
 -- b, in cost units, is at most the cost of p
 unfoldable pub CostAtLeast : Instance → Point → ℤ → Type 0
-CostAtLeast i p b = (k : ℕ) (rs : List ℕ) → 1 ≤ k → AreHigh i.points p k rs → (b *ℤ pos (k * p.q)) ≤ℤ (pos 65536 *ℤ total_of i rs)
+CostAtLeast i p b =
+    (k : ℕ) (rs : List ℕ) → 1 ≤ k → AreHigh i.points p k rs
+    → (b *ℤ pos (k * p.q)) ≤ℤ (pos 65536 *ℤ total_of i rs)
 
 -- b, in cost units, is at least the cost of p
 unfoldable pub CostAtMost : Instance → Point → ℤ → Type 0
-CostAtMost i p b = (k : ℕ) (rs : List ℕ) → 1 ≤ k → AreLow i.points p k rs → (pos 65536 *ℤ total_of i rs) ≤ℤ (b *ℤ pos (k * p.q))
+CostAtMost i p b =
+    (k : ℕ) (rs : List ℕ) → 1 ≤ k → AreLow i.points p k rs
+    → (pos 65536 *ℤ total_of i rs) ≤ℤ (b *ℤ pos (k * p.q))

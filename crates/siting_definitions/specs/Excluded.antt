@@ -8,9 +8,14 @@ use Rattle.siting_definitions.specs.Instance.{Instance}
 use Rattle.siting_definitions.specs.Square.{Square, Extent, extent_of, corners}
 
 -- the bounding box of a polygon
-unfoldable pub bounds_of : List Place → Extent
-bounds_of vs =
-    record { x0 = pos 65536 *ℤ least (map (λ (v : Place). v.x) vs); y0 = pos 65536 *ℤ least (map (λ (v : Place). v.y) vs); x1 = pos 65536 *ℤ greatest (map (λ (v : Place). v.x) vs); y1 = pos 65536 *ℤ greatest (map (λ (v : Place). v.y) vs) }
+unfoldable pub box_of : List Place → Extent
+box_of vs =
+    record {
+      x0 = pos 65536 *ℤ least (map (λ (v : Place). v.x) vs);
+      y0 = pos 65536 *ℤ least (map (λ (v : Place). v.y) vs);
+      x1 = pos 65536 *ℤ greatest (map (λ (v : Place). v.x) vs);
+      y1 = pos 65536 *ℤ greatest (map (λ (v : Place). v.y) vs);
+    }
 
 -- whether two boxes have no point in common
 abbrev pub boxes_apart : Extent → Extent → Bool
@@ -20,13 +25,17 @@ boxes_apart a b = int_lt a.x1 b.x0 || int_lt b.x1 a.x0 || int_lt a.y1 b.y0 || in
 abbrev pub is_right_of : Place → Place → Square → Bool
 is_right_of a b s = list_all (λ c. int_lt (side a b (point_of c)) (pos 0)) (corners s)
 
--- whether a permitted polygon is strictly apart from the closed square, by their boxes or by one of its edges
+-- whether a permitted polygon is strictly apart from the closed square, by their boxes or by one of
+-- its edges
 unfoldable pub is_apart : List Place → Square → Bool
-is_apart vs s = boxes_apart (bounds_of vs) (extent_of s) || list_any (λ (e : Place × Place). is_right_of e.0 e.1 s) (edges vs)
+is_apart vs s =
+    boxes_apart (box_of vs) (extent_of s)
+    || list_any (λ (e : Place × Place). is_right_of e.0 e.1 s) (edges vs)
 
 -- whether a forbidden polygon has all four corners of the square in its interior
 unfoldable pub encloses : List Place → Square → Bool
 encloses vs s = list_all (λ c. covers_inside vs (point_of c)) (corners s)
 
 unfoldable pub is_excluded : Instance → Square → Bool
-is_excluded i s = list_all (λ vs. is_apart vs s) i.permitted || list_any (λ vs. encloses vs s) i.forbidden
+is_excluded i s =
+    list_all (λ vs. is_apart vs s) i.permitted || list_any (λ vs. encloses vs s) i.forbidden

@@ -1,10 +1,12 @@
 -- Instances, and their limits.
 use Rattle.std.specs.Prelude.{◌≢◌, ℕ, ◌≤◌, ℤ, pos, ◌≤ℤ◌, unsigned_abs, List, length, All, sum_by, Option, MatchOption, ⊤}
 use Rattle.siting_definitions.specs.declared.Kind.{Kind}
+use Rattle.siting_definitions.specs.declared.TheConstants.{COORDINATE_LIMIT, WEIGHT_LIMIT, CUTOFF_LIMIT, POINT_LIMIT, POLYGON_LIMIT, VERTEX_LIMIT}
 use Rattle.siting_definitions.specs.Point.{Place}
 use Rattle.siting_definitions.specs.Polygon.{IsConvex}
 
--- a demand point: its place in lengths, its weight, and its cutoff in lengths, if it has one: a distance above it counts as it
+-- a demand point: its place in lengths, its weight, and its cutoff in lengths, if it has one: a
+-- distance above it counts as it
 pub record DemandPt : Type 0 where
   pub x : ℤ
   pub y : ℤ
@@ -25,7 +27,7 @@ unfoldable pub weight : List DemandPt → ℕ
 weight ds = sum_by (λ (d : DemandPt). unsigned_abs d.w) ds
 
 abbrev pub IsCoordinate : ℤ → Type 0
-IsCoordinate z = unsigned_abs z ≤ 1000000
+IsCoordinate z = unsigned_abs z ≤ COORDINATE_LIMIT
 
 pub record IsPlace (v : Place) : Type 0 where
   pub x : IsCoordinate v.x
@@ -34,23 +36,23 @@ pub record IsPlace (v : Place) : Type 0 where
 pub record IsDemandPt (d : DemandPt) : Type 0 where
   pub x : IsCoordinate d.x
   pub y : IsCoordinate d.y
-  pub w : unsigned_abs d.w ≤ 16000000
+  pub w : unsigned_abs d.w ≤ WEIGHT_LIMIT
   pub w_not_zero : d.w ≢ pos 0
-  pub cutoff : MatchOption d.cutoff ⊤ (λ c. (pos 1 ≤ℤ c) × (c ≤ℤ pos 4000000))
+  pub cutoff : MatchOption d.cutoff ⊤ (λ c. (pos 1 ≤ℤ c) × (c ≤ℤ pos CUTOFF_LIMIT))
 
 pub record IsPolygon (vs : List Place) : Type 0 where
   pub few : 3 ≤ length vs
-  pub many : length vs ≤ 64
+  pub many : length vs ≤ VERTEX_LIMIT
   pub places : All IsPlace vs
   pub convex : IsConvex vs
 
 pub record IsInstance (i : Instance) : Type 0 where
   pub few_points : 1 ≤ length i.points
-  pub many_points : length i.points ≤ 4096
+  pub many_points : length i.points ≤ POINT_LIMIT
   pub points : All IsDemandPt i.points
-  pub weight : weight i.points ≤ 16000000
+  pub weight : weight i.points ≤ WEIGHT_LIMIT
   pub few_permitted : 1 ≤ length i.permitted
-  pub many_permitted : length i.permitted ≤ 64
+  pub many_permitted : length i.permitted ≤ POLYGON_LIMIT
   pub permitted : All IsPolygon i.permitted
-  pub many_forbidden : length i.forbidden ≤ 64
+  pub many_forbidden : length i.forbidden ≤ POLYGON_LIMIT
   pub forbidden : All IsPolygon i.forbidden

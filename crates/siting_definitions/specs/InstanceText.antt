@@ -1,5 +1,5 @@
 -- The canonical text of an instance.
-use Rattle.std.specs.Prelude.{ℕ, ℤ, List, [], ◌∷◌, ◌++◌, map, flat_map, codes, Bool, cond, is_some, Option, Some, None}
+use Rattle.std.specs.Prelude.{ℕ, ℤ, List, [], ◌∷◌, ◌++◌, map, flat_map, codes, Bool, if◌then◌else◌, is_some, Option, Some, None}
 use Rattle.std.specs.List.{list_any}
 use Rattle.std.specs.Fmt.{signed_decimal}
 use Rattle.siting_definitions.specs.declared.Kind.{Kind}
@@ -13,7 +13,7 @@ abbrev pub has_cutoff : Instance → Bool
 has_cutoff i = list_any (λ (d : DemandPt). is_some d.cutoff) i.points
 
 abbrev pub version_field : Instance → List ℕ
-version_field i = cond (has_cutoff i) (codes "2") (codes "1")
+version_field i = if has_cutoff i then codes "2" else codes "1"
 
 abbrev pub kind_field : Kind → List ℕ
 kind_field Sum = codes "sum"
@@ -24,17 +24,21 @@ cutoff_fields None = []
 cutoff_fields (Some c) = signed_decimal c ∷ []
 
 abbrev pub point_line : DemandPt → List (List ℕ)
-point_line d = codes "point" ∷ signed_decimal d.x ∷ signed_decimal d.y ∷ signed_decimal d.w ∷ cutoff_fields d.cutoff
+point_line d =
+    codes "point"
+    ∷ signed_decimal d.x ∷ signed_decimal d.y ∷ signed_decimal d.w ∷ cutoff_fields d.cutoff
 
 abbrev pub polygon_line : List ℕ → List Place → List (List ℕ)
-polygon_line word vs = word ∷ flat_map (λ (v : Place). signed_decimal v.x ∷ signed_decimal v.y ∷ []) vs
+polygon_line word vs =
+    word ∷ flat_map (λ (v : Place). signed_decimal v.x ∷ signed_decimal v.y ∷ []) vs
 
 abbrev pub instance_lines : Instance → List (List (List ℕ))
 instance_lines i =
     (codes "siting" ∷ version_field i ∷ [])
     ∷ (codes "kind" ∷ kind_field i.kind ∷ [])
     ∷ (map point_line i.points
-    ++ (map (polygon_line (codes "permit")) i.permitted ++ (map (polygon_line (codes "forbid")) i.forbidden ++ (codes "end" ∷ []) ∷ [])))
+    ++ (map (polygon_line (codes "permit")) i.permitted
+    ++ (map (polygon_line (codes "forbid")) i.forbidden ++ (codes "end" ∷ []) ∷ [])))
 
 unfoldable pub instance_text : Instance → List ℕ
 instance_text i = text_of (instance_lines i)

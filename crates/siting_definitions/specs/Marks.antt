@@ -1,5 +1,5 @@
 -- The marks of a finished tree.
-use Rattle.std.specs.Prelude.{◌≡◌, ℕ, ◌<◌, ◌==◌, ℤ, ◌+ℤ◌, ◌≤ℤ◌, ◌<ℤ◌, int_le, Bool, true, false, cond, List, [], ◌∷◌, Option, Some, None, length, count_by, ⊤}
+use Rattle.std.specs.Prelude.{◌≡◌, ℕ, ◌<◌, ◌==◌, ℤ, ◌+ℤ◌, ◌≤ℤ◌, ◌<ℤ◌, int_le, Bool, true, false, cond, if◌then◌else◌, List, [], ◌∷◌, Option, Some, None, length, count_by, ⊤}
 use Rattle.std.specs.Int.{int_min}
 use Rattle.siting_definitions.specs.declared.Mark.{Mark}
 use Rattle.siting_definitions.specs.declared.Mark.TheVariants.{Split, Shut, Bounded, Floor, Left}
@@ -20,13 +20,17 @@ abbrev pub IsNoneOrAtLeast : Option ℤ → ℤ → Type 0
 IsNoneOrAtLeast None z = ⊤
 IsNoneOrAtLeast (Some n) z = z ≤ℤ n
 
--- v is a number of the incumbent that may have been seen when s was split, with u the least upper cost at the end
+-- v is a number of the incumbent that may have been seen when s was split, with u the least upper
+-- cost at the end
 abbrev pub SeenFits : Instance → ℤ → Option ℤ → Square → Option ℤ → Type 0
 SeenFits i gap u s None = (opening_cost i ≡ None) × (centre_cost i s ≡ None)
-SeenFits i gap u s (Some v) = IsAtMost u v × ((fine_of i s +ℤ gap) <ℤ v) × IsNoneOrAtLeast (opening_cost i) v × IsNoneOrAtLeast (centre_cost i s) v
+SeenFits i gap u s (Some v) =
+    IsAtMost u v × ((fine_of i s +ℤ gap) <ℤ v) × IsNoneOrAtLeast (opening_cost i) v
+    × IsNoneOrAtLeast (centre_cost i s) v
 
 -- the split of s, after v was seen, was called for
-pub record IsCalledFor (i : Instance) (gap : ℤ) (u : Option ℤ) (s : Square) (v : Option ℤ) : Type 0 where
+pub record IsCalledFor (i : Instance) (gap : ℤ) (u : Option ℤ) (s : Square) (v : Option ℤ) :
+    Type 0 where
   pub level : 0 < s.level
   pub open_square : is_excluded i s ≡ false
   pub seen : SeenFits i gap u s v
@@ -39,8 +43,10 @@ reaches (Some u) b = int_le u b
 -- the finished mark of a leaf, with u the least upper cost
 unfoldable pub leaf_mark : Instance → ℤ → Option ℤ → Square → Mark
 leaf_mark i gap u s =
-    cond (is_excluded i s) Shut
-    (cond (reaches u (fine_of i s +ℤ gap)) (Bounded (fine_of i s)) (cond (s.level == 0) (Floor (fine_of i s)) (Left (fine_of i s))))
+    if is_excluded i s then Shut
+    else if reaches u (fine_of i s +ℤ gap) then Bounded (fine_of i s)
+    else if s.level == 0 then Floor (fine_of i s)
+    else Left (fine_of i s)
 
 abbrev pub SplitFits : Instance → ℤ → Option ℤ → Square → Mark → Type 0
 SplitFits i gap u s (Split v) = IsCalledFor i gap u s v
@@ -51,7 +57,8 @@ SplitFits i gap u s (Left b) = ⊥
 
 -- a leaf has its finished mark, and a split square a split that was called for
 abbrev pub MarkFits : Instance → ℤ → Option ℤ → TreeSquare → Mark → Type 0
-MarkFits i gap u t m = cond t.is_split (SplitFits i gap u t.square m) (m ≡ leaf_mark i gap u t.square)
+MarkFits i gap u t m =
+    cond t.is_split (SplitFits i gap u t.square m) (m ≡ leaf_mark i gap u t.square)
 
 abbrev pub MarksFit : Instance → ℤ → Option ℤ → List TreeSquare → List Mark → Type 0
 MarksFit i gap u [] [] = ⊤
@@ -96,12 +103,12 @@ is_leaf (Bounded b) = true
 is_leaf (Floor b) = true
 is_leaf (Left b) = true
 
-abbrev pub is_left : Mark → Bool
-is_left (Split v) = false
-is_left Shut = false
-is_left (Bounded b) = false
-is_left (Floor b) = false
-is_left (Left b) = true
+abbrev pub is_open : Mark → Bool
+is_open (Split v) = false
+is_open Shut = false
+is_open (Bounded b) = false
+is_open (Floor b) = false
+is_open (Left b) = true
 
 abbrev pub is_floor : Mark → Bool
 is_floor (Split v) = false
@@ -121,4 +128,11 @@ pub record Tally : Type 0 where
 
 unfoldable pub tally_of : List Mark → Tally
 tally_of ms =
-    record { nodes = length ms; splits = count_by is_split ms; leaves = count_by is_leaf ms; open_leaves = count_by is_left ms; floor_leaves = count_by is_floor ms; least = least_of ms }
+    record {
+      nodes = length ms;
+      splits = count_by is_split ms;
+      leaves = count_by is_leaf ms;
+      open_leaves = count_by is_open ms;
+      floor_leaves = count_by is_floor ms;
+      least = least_of ms;
+    }

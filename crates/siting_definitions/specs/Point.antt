@@ -27,6 +27,7 @@ grid v = record { x = pos 65536 *ℤ v.x; y = pos 65536 *ℤ v.y }
 abbrev pub point_of : Pt → Point
 point_of p = record { x = p.x; y = p.y; q = 65536; q_pos = lit≤ tt }
 
--- the side of p on the edge from s to t, times q: above 0 to the left of the edge, 0 on its line, below 0 to the right
+-- the side of p on the edge from s to t, times q: above 0 to the left of the edge, 0 on its line,
+-- below 0 to the right
 unfoldable pub side : Place → Place → Point → ℤ
 side s t p = (t.x -ℤ s.x) *ℤ (p.y -ℤ pos p.q *ℤ s.y) -ℤ (t.y -ℤ s.y) *ℤ (p.x -ℤ pos p.q *ℤ s.x)

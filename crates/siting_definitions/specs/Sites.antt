@@ -1,5 +1,5 @@
 -- The root square, the opening site, the centre site of a square, and the gap asked.
-use Rattle.std.specs.Prelude.{ℕ, ◌+◌, ◌*◌, ◌/◌, max, nat_lt, ℤ, pos, ◌-ℤ◌, ◌*ℤ◌, int_le, unsigned_abs, Bool, cond, ◌&&◌, List, [], ◌∷◌, ◌++◌, map, filter, flat_map, Option, Some, None, option_map}
+use Rattle.std.specs.Prelude.{ℕ, ◌+◌, ◌*◌, ◌/◌, max, nat_lt, ℤ, pos, ◌-ℤ◌, ◌*ℤ◌, int_le, unsigned_abs, Bool, if◌then◌else◌, ◌&&◌, List, [], ◌∷◌, ◌++◌, map, filter, flat_map, Option, Some, None, option_map}
 use Rattle.std.specs.Float.Ieee.{size}
 use Rattle.siting_definitions.specs.declared.GapRule.{GapRule}
 use Rattle.siting_definitions.specs.declared.GapRule.TheVariants.{Fixed, Ppm}
@@ -15,25 +15,29 @@ abbrev pub vertices : List (List Place) → List Place
 vertices vss = flat_map (λ vs. vs) vss
 
 -- how far the numbers of a list are apart
-abbrev pub spread : List ℤ → ℕ
-spread zs = unsigned_abs (greatest zs -ℤ least zs)
+abbrev pub range_of : List ℤ → ℕ
+range_of zs = unsigned_abs (greatest zs -ℤ least zs)
 
 -- the extent of the places in x or in y, whichever is greater, in lengths
 abbrev pub span : List Place → ℕ
-span vs = max (spread (map (λ (v : Place). v.x) vs)) (spread (map (λ (v : Place). v.y) vs))
+span vs = max (range_of (map (λ (v : Place). v.x) vs)) (range_of (map (λ (v : Place). v.y) vs))
 
--- The starting square: its corner is the least x and the least y of the permitted polygons, and its side is the least power
--- of two of whole lengths above their span. `size n` is how many binary digits n has, so 2 ^ size n is the least power of
--- two above n.
+-- The starting square: its corner is the least x and the least y of the permitted polygons, and its
+-- side is the least power of two of whole lengths above their span. `size n` is how many binary
+-- digits n has, so 2 ^ size n is the least power of two above n.
 unfoldable pub root_of : Instance → Square
 root_of i =
     let vs = vertices i.permitted in
-    record { x = pos 65536 *ℤ least (map (λ (v : Place). v.x) vs); y = pos 65536 *ℤ least (map (λ (v : Place). v.y) vs); level = 16 + size (span vs) }
+    record {
+      x = pos 65536 *ℤ least (map (λ (v : Place). v.x) vs);
+      y = pos 65536 *ℤ least (map (λ (v : Place). v.y) vs);
+      level = 16 + size (span vs);
+    }
 
 -- z, or y where y is there and costs less
 abbrev pub cheaper : (Pt → ℤ) → Pt → Option Pt → Pt
 cheaper cost z None = z
-cheaper cost z (Some y) = cond (int_le (cost z) (cost y)) z y
+cheaper cost z (Some y) = if int_le (cost z) (cost y) then z else y
 
 -- the first site of least cost
 abbrev pub cheapest : (Pt → ℤ) → List Pt → Option Pt
@@ -42,7 +46,8 @@ cheapest cost (z ∷ zs) = Some (cheaper cost z (cheapest cost zs))
 
 -- the vertices of permitted polygons and then of forbidden ones that are permitted
 abbrev pub candidates : Instance → List Pt
-candidates i = filter (λ z. permits i (point_of z)) (map grid (vertices i.permitted ++ vertices i.forbidden))
+candidates i =
+    filter (λ z. permits i (point_of z)) (map grid (vertices i.permitted ++ vertices i.forbidden))
 
 -- the first permitted vertex of least upper cost, if a vertex is permitted
 unfoldable pub opening_of : Instance → Option Pt
@@ -57,13 +62,14 @@ unfoldable pub has_centre : Instance → Square → Bool
 has_centre i s = nat_lt 0 s.level && permits i (point_of (centre_of s))
 
 abbrev pub centre_site_of : Instance → Square → Option Pt
-centre_site_of i s = cond (has_centre i s) (Some (centre_of s)) None
+centre_site_of i s = if has_centre i s then Some (centre_of s) else None
 
 -- the upper cost of the centre site, if there is one
 abbrev pub centre_cost : Instance → Square → Option ℤ
 centre_cost i s = option_map (upper_of i) (centre_site_of i s)
 
--- the gap asked, from the opening's upper cost: without an opening, 65536 cost units unless the gap is fixed
+-- the gap asked, from the opening's upper cost: without an opening, 65536 cost units unless the gap
+-- is fixed
 abbrev pub gap_of : GapRule → Option ℤ → ℤ
 gap_of (Fixed gap) opening = gap
 gap_of (Ppm ppm) None = pos 65536

@@ -1,5 +1,5 @@
 -- Dyadic squares of the grid, and which rational points they hold.
-use Rattle.std.specs.Prelude.{◌≡◌, ℕ, ◌-◌, ◌%◌, ◌^◌, ◌≤◌, ◌==◌, nat_le, ℤ, pos, ◌+ℤ◌, ◌*ℤ◌, ◌≤ℤ◌, int_le, int_lt, Bool, cond, ◌&&◌, List, [], ◌∷◌, count_by}
+use Rattle.std.specs.Prelude.{◌≡◌, ℕ, ◌-◌, ◌%◌, ◌^◌, ◌≤◌, ◌==◌, nat_le, ℤ, pos, ◌+ℤ◌, ◌*ℤ◌, ◌≤ℤ◌, int_le, int_lt, Bool, if◌then◌else◌, ◌&&◌, List, [], ◌∷◌, count_by}
 use Rattle.siting_definitions.specs.Point.{Pt, Point}
 
 -- the square with the lower left corner (x, y), in grid units, and a side of 2 ^ level grid units
@@ -24,17 +24,22 @@ pub record Extent : Type 0 where
 
 -- the closed square as a box
 abbrev pub extent_of : Square → Extent
-extent_of s = record { x0 = s.x; y0 = s.y; x1 = s.x +ℤ pos (2 ^ s.level); y1 = s.y +ℤ pos (2 ^ s.level) }
+extent_of s =
+    record { x0 = s.x; y0 = s.y; x1 = s.x +ℤ pos (2 ^ s.level); y1 = s.y +ℤ pos (2 ^ s.level) }
 
--- whether the coordinate v / q, in lengths, lies from low up to, but not at, low + len, in grid units
+-- whether the coordinate v / q, in lengths, lies from low up to, but not at, low + len, in grid
+-- units
 abbrev pub spans : ℤ → ℕ → ℕ → ℤ → Bool
-spans low len q v = int_le (pos q *ℤ low) (pos 65536 *ℤ v) && int_lt (pos 65536 *ℤ v) (pos q *ℤ (low +ℤ pos len))
+spans low len q v =
+    int_le (pos q *ℤ low) (pos 65536 *ℤ v) && int_lt (pos 65536 *ℤ v) (pos q *ℤ (low +ℤ pos len))
 
 -- the same, with low + len
 abbrev pub spans_closed : ℤ → ℕ → ℕ → ℤ → Bool
-spans_closed low len q v = int_le (pos q *ℤ low) (pos 65536 *ℤ v) && int_le (pos 65536 *ℤ v) (pos q *ℤ (low +ℤ pos len))
+spans_closed low len q v =
+    int_le (pos q *ℤ low) (pos 65536 *ℤ v) && int_le (pos 65536 *ℤ v) (pos q *ℤ (low +ℤ pos len))
 
--- whether the half-open square holds p: it has its left and its lower border, and neither of the others
+-- whether the half-open square holds p: it has its left and its lower border, and neither of the
+-- others
 unfoldable pub holds : Square → Point → Bool
 holds s p = spans s.x (2 ^ s.level) p.q p.x && spans s.y (2 ^ s.level) p.q p.y
 
@@ -44,9 +49,11 @@ holds_closed s p = spans_closed s.x (2 ^ s.level) p.q p.x && spans_closed s.y (2
 
 -- each point that s holds is held by exactly one square of the list, and each other point by none
 abbrev pub Tiles : List Square → Square → Type 0
-Tiles list s = (p : Point) → count_by (λ (t : Square). holds t p) list ≡ cond (holds s p) 1 0
+Tiles list s =
+    (p : Point) → count_by (λ (t : Square). holds t p) list ≡ (if holds s p then 1 else 0)
 
--- Corners and quarters are numbered 0 (left, lower), 1 (right, lower), 2 (left, upper), 3 (right, upper).
+-- Corners and quarters are numbered 0 (left, lower), 1 (right, lower), 2 (left, upper),
+-- 3 (right, upper).
 abbrev pub is_right : ℕ → Bool
 is_right i = i % 2 == 1
 
@@ -55,11 +62,15 @@ is_upper i = nat_le 2 i
 
 -- len on the far side, 0 on the near one
 abbrev pub far_by : Bool → ℕ → ℕ
-far_by far len = cond far len 0
+far_by far len = if far then len else 0
 
 -- corner i of the closed square
 abbrev pub corner_of : Square → ℕ → Pt
-corner_of s i = record { x = s.x +ℤ pos (far_by (is_right i) (2 ^ s.level)); y = s.y +ℤ pos (far_by (is_upper i) (2 ^ s.level)) }
+corner_of s i =
+    record {
+      x = s.x +ℤ pos (far_by (is_right i) (2 ^ s.level));
+      y = s.y +ℤ pos (far_by (is_upper i) (2 ^ s.level));
+    }
 
 abbrev pub corners : Square → List Pt
 corners s = corner_of s 0 ∷ corner_of s 1 ∷ corner_of s 2 ∷ corner_of s 3 ∷ []
@@ -67,7 +78,11 @@ corners s = corner_of s 0 ∷ corner_of s 1 ∷ corner_of s 2 ∷ corner_of s 3 
 -- quarter i of a square of level above 0
 abbrev pub quarter_of : Square → ℕ → Square
 quarter_of s i =
-    record { x = s.x +ℤ pos (far_by (is_right i) (2 ^ (s.level - 1))); y = s.y +ℤ pos (far_by (is_upper i) (2 ^ (s.level - 1))); level = s.level - 1 }
+    record {
+      x = s.x +ℤ pos (far_by (is_right i) (2 ^ (s.level - 1)));
+      y = s.y +ℤ pos (far_by (is_upper i) (2 ^ (s.level - 1)));
+      level = s.level - 1;
+    }
 
 abbrev pub quarters : Square → List Square
 quarters s = quarter_of s 0 ∷ quarter_of s 1 ∷ quarter_of s 2 ∷ quarter_of s 3 ∷ []

@@ -10,7 +10,9 @@ pub data Tree : Type 0 where
 -- no square of level 0 is split, where the shape's square has this level
 abbrev pub Fits : Tree → ℕ → Type 0
 Fits Leaf level = ⊤
-Fits (Branch a b c d) level = (0 < level) × Fits a (level - 1) × Fits b (level - 1) × Fits c (level - 1) × Fits d (level - 1)
+Fits (Branch a b c d) level =
+    (0 < level) × Fits a (level - 1) × Fits b (level - 1) × Fits c (level - 1)
+    × Fits d (level - 1)
 
 -- a square of a tree, and whether it has its quarters there
 pub record TreeSquare : Type 0 where
@@ -22,8 +24,11 @@ abbrev pub preorder : Tree → Square → List TreeSquare
 preorder Leaf s = record { square = s; is_split = false } ∷ []
 preorder (Branch a b c d) s =
     record { square = s; is_split = true }
-    ∷ (preorder a (quarter_of s 0) ++ (preorder b (quarter_of s 1) ++ (preorder c (quarter_of s 2) ++ preorder d (quarter_of s 3))))
+    ∷ (preorder a (quarter_of s 0)
+    ++ (preorder b (quarter_of s 1)
+    ++ (preorder c (quarter_of s 2) ++ preorder d (quarter_of s 3))))
 
 -- the squares that have no quarters there
 abbrev pub leaves : List TreeSquare → List Square
-leaves squares = map (λ (t : TreeSquare). t.square) (filter (λ (t : TreeSquare). not t.is_split) squares)
+leaves squares =
+    map (λ (t : TreeSquare). t.square) (filter (λ (t : TreeSquare). not t.is_split) squares)

@@ -1,8 +1,35 @@
 //! The definitions of siting: instances, costs, bounds, squares, trees, answers and their texts.
 //!
-//! The definitions are in `specs/`, and no function stands here. What is declared here are the enums that they name;
-//! the crate that each belongs to passes it on.
+//! The definitions are in `specs/`, and no function stands here. What is declared here are the limits and the
+//! enums that they name; the crate that each enum belongs to passes it on.
 #![tactic(auto)]
+
+/// The greatest size of a coordinate, in lengths.
+pub const COORDINATE_LIMIT: u64 = 1000000;
+
+/// The greatest sum of the sizes of the weights, and so the greatest size of a weight.
+pub const WEIGHT_LIMIT: u64 = 16000000;
+
+/// The greatest cutoff, in lengths.
+pub const CUTOFF_LIMIT: u64 = 4000000;
+
+/// How many demand points an instance has at most.
+pub const POINT_LIMIT: usize = 4096;
+
+/// How many permitted polygons an instance has at most, and how many forbidden ones.
+pub const POLYGON_LIMIT: usize = 64;
+
+/// How many vertices a polygon has at most.
+pub const VERTEX_LIMIT: usize = 64;
+
+/// The greatest gap, in cost units: 2^62.
+pub const GAP_LIMIT: u64 = 4611686018427387904;
+
+/// The greatest budget: how many squares may be taken up.
+pub const BUDGET_LIMIT: u32 = 1000000;
+
+/// The greatest pool: how many squares may be open at once.
+pub const POOL_LIMIT: u32 = 1000000;
 
 /// How the terms "weight times distance" make a cost.
 #[derive(Clone, Copy, Debug, PartialEq, Eq)]
@@ -25,7 +52,7 @@ pub enum GapRule {
 /// What became of a square of the tree. Each number is in cost units.
 #[derive(Clone, Copy, Debug, PartialEq, Eq)]
 pub enum Mark {
-    /// Cut into its quarters, with the number of the incumbent that was seen then, if there was one.
+    /// Split into its quarters, with the number of the incumbent that was seen then, if there was one.
     Split(Option<i64>),
     /// Excluded: no point of it is permitted.
     Shut,

@@ -55,7 +55,8 @@ is_word-decimal : (n : ℕ) → is_word (decimal n) ≡ true
 unfolding digits
 is_word-decimal n = word_digits 63 n
 
-word_bytes : (ds : List ℕ) → is_word ds ≡ true → list_all (λ c. ltb 32 c) ds ≡ true
+-- each byte of a word is above the space
+pub word_bytes : (ds : List ℕ) → is_word ds ≡ true → list_all (λ c. ltb 32 c) ds ≡ true
 word_bytes [] word = refl
 word_bytes (d ∷ ds) word = word
 

@@ -5,7 +5,7 @@ use Rattle.std.proofs.lemmas.Bool.{and_parts, and_from, ltb-true, lt-ltb, ne_eqb
 use Rattle.std.proofs.lemmas.List.Folds.{list_all-append}
 use Rattle.siting_definitions.specs.Line.{line_text, text_of}
 use Rattle.text_lines.specs.Lines.{onto, pieces_of, without_return, lines_of, is_gap, fields_of}
-use Rattle.text_lines.specs.Words.{is_word, are_words, AreWords, joined, rows_of}
+use Rattle.text_lines.specs.Words.{is_word, are_words, AreWords, line_bytes, rows_of}
 
 -- every byte is that of the space or above it
 abbrev is_plain : List ℕ → Bool
@@ -35,6 +35,7 @@ lines_then line rest plain =
 not_gap : (b : ℕ) → ltb 32 b ≡ true → is_gap b ≡ false
 not_gap b above = rw (not_byte 32 b 32 above refl, not_byte 32 b 9 above refl) refl
 
+-- a word before a space is the first field
 run_then : (b : ℕ) (bs rest : List ℕ) → ltb 32 b ≡ true → list_all (λ c. ltb 32 c) bs ≡ true → fields_of (b ∷ (bs ++ 32 ∷ rest)) ≡ (b ∷ bs) ∷ fields_of rest
 run_then b [] rest above more = let first : is_gap b ≡ false = not_gap b above in rw first refl
 run_then b (c ∷ bs) rest above more =
@@ -44,6 +45,7 @@ run_then b (c ∷ bs) rest above more =
     let here : fields_of (b ∷ (c ∷ (bs ++ 32 ∷ rest))) ≡ onto b (fields_of (c ∷ (bs ++ 32 ∷ rest))) = rw (first, second) refl in
     here ∙ ap (onto b) (run_then c bs rest parts.0 parts.1)
 
+-- and a word alone the only one
 run_last : (b : ℕ) (bs : List ℕ) → ltb 32 b ≡ true → list_all (λ c. ltb 32 c) bs ≡ true → fields_of (b ∷ bs) ≡ (b ∷ bs) ∷ []
 run_last b [] above more = let first : is_gap b ≡ false = not_gap b above in rw first refl
 run_last b (c ∷ bs) above more =
@@ -64,12 +66,12 @@ fields_last [] word = absurd cc
 fields_last (b ∷ bs) word = run_last b bs (and_parts _ _ word).0 (and_parts _ _ word).1
 
 -- the fields of a line of words
-pub fields_of-joined : (fields : List (List ℕ)) → are_words fields ≡ true → fields_of (joined fields) ≡ fields
+pub fields_of-joined : (fields : List (List ℕ)) → are_words fields ≡ true → fields_of (line_bytes fields) ≡ fields
 fields_of-joined [] words = refl
 fields_of-joined (field ∷ []) words = fields_last field (and_parts _ _ words).0
 fields_of-joined (field ∷ next ∷ fields) words =
     let parts = and_parts _ _ words in
-    fields_then field (joined (next ∷ fields)) parts.0 ∙ ap (λ fs. field ∷ fs) (fields_of-joined (next ∷ fields) parts.1)
+    fields_then field (line_bytes (next ∷ fields)) parts.0 ∙ ap (λ fs. field ∷ fs) (fields_of-joined (next ∷ fields) parts.1)
 
 plain_bytes : (bs : List ℕ) → list_all (λ c. ltb 32 c) bs ≡ true → is_plain bs ≡ true
 plain_bytes [] above = refl
@@ -82,25 +84,26 @@ plain_word : (field : List ℕ) → is_word field ≡ true → is_plain field �
 plain_word [] word = refl
 plain_word (b ∷ bs) word = plain_bytes (b ∷ bs) word
 
-plain_joined : (fields : List (List ℕ)) → are_words fields ≡ true → is_plain (joined fields) ≡ true
+plain_joined : (fields : List (List ℕ)) → are_words fields ≡ true → is_plain (line_bytes fields) ≡ true
 plain_joined [] words = refl
 plain_joined (field ∷ []) words = plain_word field (and_parts _ _ words).0
 plain_joined (field ∷ next ∷ fields) words =
     let parts = and_parts _ _ words in
-    list_all-append (λ b. ltb 31 b) field (32 ∷ joined (next ∷ fields))
+    list_all-append (λ b. ltb 31 b) field (32 ∷ line_bytes (next ∷ fields))
     ∙ and_from _ _ (plain_word field parts.0) (plain_joined (next ∷ fields) parts.1)
 
-line_text-joined : (fields : List (List ℕ)) (rest : List ℕ) → line_text fields ++ rest ≡ joined fields ++ 10 ∷ rest
+-- the text of a line is its bytes and a line feed
+pub line_text-joined : (fields : List (List ℕ)) (rest : List ℕ) → line_text fields ++ rest ≡ line_bytes fields ++ 10 ∷ rest
 line_text-joined [] rest = refl
 line_text-joined (field ∷ []) rest = append_assoc field (10 ∷ []) rest
 line_text-joined (field ∷ next ∷ fields) rest =
     append_assoc field (32 ∷ line_text (next ∷ fields)) rest
     ∙ ap (λ bytes. field ++ 32 ∷ bytes) (line_text-joined (next ∷ fields) rest)
-    ∙ sym (append_assoc field (32 ∷ joined (next ∷ fields)) (10 ∷ rest))
+    ∙ sym (append_assoc field (32 ∷ line_bytes (next ∷ fields)) (10 ∷ rest))
 
 -- a line of words that was written, and what comes after it
-pub lines_of-line_text : (fields : List (List ℕ)) (rest : List ℕ) → are_words fields ≡ true → lines_of (line_text fields ++ rest) ≡ joined fields ∷ lines_of rest
-lines_of-line_text fields rest words = ap lines_of (line_text-joined fields rest) ∙ lines_then (joined fields) rest (plain_joined fields words)
+pub lines_of-line_text : (fields : List (List ℕ)) (rest : List ℕ) → are_words fields ≡ true → lines_of (line_text fields ++ rest) ≡ line_bytes fields ∷ lines_of rest
+lines_of-line_text fields rest words = ap lines_of (line_text-joined fields rest) ∙ lines_then (line_bytes fields) rest (plain_joined fields words)
 
 rows_back : (lines : List (List (List ℕ))) → list_all are_words lines ≡ true → rows_of (text_of lines) ≡ lines
 rows_back [] words = refl

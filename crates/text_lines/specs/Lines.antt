@@ -10,14 +10,16 @@ onto b (piece ∷ pieces) = (b ∷ piece) ∷ pieces
 abbrev pub pieces_from : ℕ → List (List ℕ) → List (List ℕ)
 pieces_from b pieces = if b == 10 then [] ∷ pieces else onto b pieces
 
--- the pieces that end with a line feed, each without it, and what comes after the last line feed where that isn't empty
+-- the pieces that end with a line feed, each without it, and what comes after the last line feed
+-- where that isn't empty
 abbrev pub pieces_of : List ℕ → List (List ℕ)
 pieces_of [] = []
 pieces_of (b ∷ bs) = pieces_from b (pieces_of bs)
 
 -- a piece without the carriage return at its end, where it has one
 abbrev pub without_return : List ℕ → List ℕ
-without_return piece = if slice_index piece (length piece - 1) == 13 then take (length piece - 1) piece else piece
+without_return piece =
+    if slice_index piece (length piece - 1) == 13 then take (length piece - 1) piece else piece
 
 -- the lines of a text
 abbrev pub lines_of : List ℕ → List (List ℕ)
@@ -34,7 +36,10 @@ begins_with_gap (b ∷ bs) = is_gap b
 
 -- the fields of a byte and of the bytes after it, of the fields of these
 abbrev pub fields_from : ℕ → List ℕ → List (List ℕ) → List (List ℕ)
-fields_from b bs fields = if is_gap b then fields else (if begins_with_gap bs then (b ∷ []) ∷ fields else onto b fields)
+fields_from b bs fields =
+    if is_gap b then fields
+    else if begins_with_gap bs then (b ∷ []) ∷ fields
+    else onto b fields
 
 -- the fields of a line: the longest runs of bytes other than space and tab
 abbrev pub fields_of : List ℕ → List (List ℕ)

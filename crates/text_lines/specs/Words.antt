@@ -16,10 +16,10 @@ pub record AreWords (lines : List (List (List ℕ))) : Type 0 where
   pub test : IsTrue (list_all are_words lines)
 
 -- the bytes of a line with these fields, without its line feed
-abbrev pub joined : List (List ℕ) → List ℕ
-joined [] = []
-joined (field ∷ []) = field
-joined (field ∷ next ∷ fields) = field ++ 32 ∷ joined (next ∷ fields)
+abbrev pub line_bytes : List (List ℕ) → List ℕ
+line_bytes [] = []
+line_bytes (field ∷ []) = field
+line_bytes (field ∷ next ∷ fields) = field ++ 32 ∷ line_bytes (next ∷ fields)
 
 -- the fields of each line of a text
 abbrev pub rows_of : List ℕ → List (List (List ℕ))

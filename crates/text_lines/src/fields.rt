@@ -9,7 +9,8 @@ ghost use Rattle.text_lines.specs.Lines.{is_gap as is_gap_byte, begins_with_gap,
 /// A field is a longest run of bytes other than space and tab.
 pub fn next_field(line: &[u8]) -> Option<(&[u8], &[u8])>
     ensures none { IfNone result (fields_of line.now ≡ []) }
-    ensures some { IfSome result (λ f. (fields_of line.now ≡ f.0.now ∷ fields_of f.1.now) × (length f.1.now < length line.now)) }
+    ensures some { IfSome result (λ f. (fields_of line.now ≡ f.0.now ∷ fields_of f.1.now)
+        × (length f.1.now < length line.now)) }
 {
     let start = past_gap(line);
     if start.is_empty() {
@@ -43,7 +44,7 @@ pub fn is_passed_over(line: &[u8]) -> bool
 }
 
 /// Whether a field is this word.
-pub fn is_word(field: &[u8], word: &[u8]) -> bool
+pub fn says(field: &[u8], word: &[u8]) -> bool
     ensures { result ≡ bytes_eq field.now word.now }
 {
     field == word
@@ -77,7 +78,8 @@ fn field_end(start: &[u8]) -> usize
     requires some { 0 < length start.now }
     requires begins { begins_with_gap start.now ≡ false }
     ensures within { (0 < result) × (result ≤ length start.now) }
-    ensures first { fields_of start.now ≡ take result start.now ∷ fields_of (drop result start.now) }
+    ensures first { fields_of start.now
+        ≡ take result start.now ∷ fields_of (drop result start.now) }
 {
     for (i, byte) in start.iter().enumerate() {
         if is_gap(*byte) {

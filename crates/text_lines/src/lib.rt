@@ -8,9 +8,9 @@ mod fields;
 mod lines;
 mod numbers;
 
-pub use fields::{count_fields, is_passed_over, is_word, next_field};
+pub use fields::{count_fields, is_passed_over, next_field, says};
 pub use lines::next_line;
-pub use numbers::{Within, digits, number, number_within};
+pub use numbers::{NumberField, digits, number, number_within};
 
 #[cfg(test)]
 mod tests;

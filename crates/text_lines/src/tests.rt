@@ -54,8 +54,8 @@ fn fields_are_the_longest_runs(rt: HostRuntime) {
     assert!(rt; is_passed_over(b" \t"));
     assert!(rt; is_passed_over(b" #end"));
     assert!(rt; !is_passed_over(b"end #"));
-    assert!(rt; is_word(b"end", b"end"));
-    assert!(rt; !is_word(b"ends", b"end"));
+    assert!(rt; says(b"end", b"end"));
+    assert!(rt; !says(b"ends", b"end"));
 }
 
 #[test]
@@ -82,12 +82,12 @@ fn numbers_have_a_sign_or_none(rt: HostRuntime) {
     assert_eq!(rt; digits(b"0100"), Some(100));
     assert_eq!(rt;
         number_within(b"-1000000", 1_000_000),
-        Within::Value(-1_000_000)
+        NumberField::Value(-1_000_000)
     );
-    assert_eq!(rt; number_within(b"1000001", 1_000_000), Within::Beyond);
+    assert_eq!(rt; number_within(b"1000001", 1_000_000), NumberField::Beyond);
     assert_eq!(rt;
         number_within(b"-99999999999999999999999999", 1_000_000),
-        Within::Beyond
+        NumberField::Beyond
     );
-    assert_eq!(rt; number_within(b"1e3", 1_000_000), Within::NotANumber);
+    assert_eq!(rt; number_within(b"1e3", 1_000_000), NumberField::NotANumber);
 }

@@ -4,15 +4,16 @@ ghost use Rattle.std.specs.Prelude.{◌≡◌, option_map};
 ghost use Rattle.std.specs.Option.{option_and_then};
 ghost use Rattle.std.specs.Str.{bytes_eq};
 ghost use Rattle.std.specs.Fmt.{signed_decimal};
-ghost use Rattle.text_lines.specs.Numbers.{capped_size, number_of};
+ghost use Rattle.text_lines.specs.Numbers.{saturated_size, number_of};
 ghost use Rattle.certificate.specs.Forms as forms;
-ghost use Rattle.certificate.specs.FormParts.{space_first};
+ghost use Rattle.certificate.specs.FormParts.{space_first, root_fields};
 
 use crate::reader::Item;
 use crate::reader::head_parts::Priced;
+use dyadic_square::Square;
 use site_model::Site;
 use siting_definitions::{Mark, Word};
-use text_lines::{is_word, number};
+use text_lines::{number, says};
 
 /// Whether a field is this number as it is written.
 fn is_written(value: i64, field: &[u8]) -> bool
@@ -48,7 +49,7 @@ fn if_written(value: i64, field: &[u8]) -> Option<i64>
 
 /// The number from `low` to `high` that a field is.
 fn number_in(low: i64, high: i64, field: &[u8]) -> Option<i64>
-    ensures { result ≡ option_and_then (forms.ranged low high) (option_map capped_size (number_of field.now)) }
+    ensures { result ≡ option_and_then (forms.ranged low high) (option_map saturated_size (number_of field.now)) }
 {
     ranged(low, high, number(field)?)
 }
@@ -71,7 +72,7 @@ fn after_space(bytes: &[u8]) -> Option<&[u8]>
 }
 
 /// What stands after a word and one space.
-fn after_word<'x>(word: &'x [u8], line: &'x [u8]) -> Option<&'x [u8]>
+fn after_word<'x>(word: &[u8], line: &'x [u8]) -> Option<&'x [u8]>
     ensures { option_map (λ rest. rest.now) result ≡ forms.after_word word.now line.now }
 {
     after_space(line.strip_prefix(word)?)
@@ -110,16 +111,16 @@ fn two_numbers(low: i64, high: i64, bytes: &[u8]) -> Option<(i64, i64)>
 fn is_none(bytes: &[u8]) -> bool
     ensures { result ≡ forms.is_none bytes.now }
 {
-    is_word(bytes, b"none")
+    says(bytes, b"none")
 }
 
 /// The first line: whether it says the second version of the text.
 pub(super) fn version_form(line: &[u8]) -> Option<bool>
     ensures { result ≡ forms.version_form line.now }
 {
-    if is_word(line, b"siting answer 1") {
+    if says(line, b"siting answer 1") {
         Some(false)
-    } else if is_word(line, b"siting answer 2") {
+    } else if says(line, b"siting answer 2") {
         Some(true)
     } else {
         None
@@ -193,15 +194,15 @@ pub(super) fn bound_form(line: &[u8]) -> Option<Option<i64>>
 fn word_in(bytes: &[u8]) -> Option<Word>
     ensures { result ≡ forms.word_in bytes.now }
 {
-    if is_word(bytes, b"solved") {
+    if says(bytes, b"solved") {
         Some(Word::Solved)
-    } else if is_word(bytes, b"pool_full") {
+    } else if says(bytes, b"pool_full") {
         Some(Word::PoolFull)
-    } else if is_word(bytes, b"budget") {
+    } else if says(bytes, b"budget") {
         Some(Word::Budget)
-    } else if is_word(bytes, b"floor") {
+    } else if says(bytes, b"floor") {
         Some(Word::Floor)
-    } else if is_word(bytes, b"empty") {
+    } else if says(bytes, b"empty") {
         Some(Word::Empty)
     } else {
         None
@@ -213,6 +214,36 @@ pub(super) fn word_form(line: &[u8]) -> Option<Word>
     ensures { result ≡ forms.word_form line.now }
 {
     word_in(after_word(b"answer", line)?)
+}
+
+/// What stands after this number, as it is written, and one space.
+fn after_number(value: i64, line: &[u8]) -> Option<&[u8]>
+    ensures { option_map (λ rest. rest.now) result
+        ≡ forms.after_word (signed_decimal value) line.now }
+{
+    let mut digits = itoa::Buffer::new();
+    after_word(digits.format(value).as_bytes(), line)
+}
+
+/// The root, where these bytes are its corner and its level.
+fn root_in(root: Square, line: &[u8]) -> Option<Square>
+    ensures { result ≡ root_fields root line.now }
+{
+    let x = after_word(b"root", line)?;
+    let y = after_number(root.x, x)?;
+    let level = after_number(root.y, y)?;
+    if is_written(i64::from(root.level), level) {
+        Some(root)
+    } else {
+        None
+    }
+}
+
+/// The root, where a line is the one of it.
+pub(super) fn root_form(root: Square, line: &[u8]) -> Option<Square>
+    ensures { result ≡ forms.root_form root line.now }
+{
+    root_in(root, line)
 }
 
 /// The mark with this letter and this number.
@@ -242,11 +273,11 @@ fn numbered_mark(line: &[u8]) -> Option<Mark>
 pub(super) fn item_form(line: &[u8]) -> Option<Item>
     ensures { result ≡ forms.item_form line.now }
 {
-    if is_word(line, b"end") {
+    if says(line, b"end") {
         Some(Item::End)
-    } else if is_word(line, b"X") {
+    } else if says(line, b"X") {
         Some(Item::Node(Mark::Shut))
-    } else if is_word(line, b"S -") {
+    } else if says(line, b"S -") {
         Some(Item::Node(Mark::Split(None)))
     } else {
         Some(Item::Node(numbered_mark(line)?))

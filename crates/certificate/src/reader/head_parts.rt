@@ -38,7 +38,7 @@ pub(super) struct Priced {
 impl Model for Priced {
     ghost use Rattle.std.specs.Prelude.{◌≡◌, Option, is_some};
     ghost use Rattle.siting_definitions.specs.Answer.{Best};
-    ghost use Rattle.certificate.specs.Inside.{best_of};
+    ghost use Rattle.answer_model.specs.Head.{best_of};
 
     ghost Value = { Option Best };
 

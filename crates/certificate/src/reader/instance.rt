@@ -1,17 +1,18 @@
 //! Reading the lines of the instance.
 
-ghost use Rattle.std.specs.Prelude.{◌≡◌, ◌<◌, ◌≤◌, Some, [], Err, IsOk, OnErr, IfSome, option_map};
+ghost use Rattle.std.specs.Prelude.{◌≡◌, ◌<◌, ◌≤◌, Some, [], Err, IsOk, OnErr, option_map};
+ghost use Rattle.line_stream.specs.Stream.{stream};
 ghost use Rattle.certificate.specs.HeadReading.{answer_limit, instance_part};
 ghost use Rattle.certificate.specs.PartReading.{part_with, RestRead, PartLineRead, PartRead};
-ghost use Rattle.certificate.specs.ReaderView.{coming, source_of, faults_of, read_of, ReadsTo, Blames};
+ghost use Rattle.certificate.specs.AnswerReading.{ReadInMemory};
 
 use crate::reader::canonical::canonical_instance;
-use crate::reader::{AnswerError, AnswerReader};
+use crate::reader::{AnswerError, AnswerLines};
 use port_io::Source;
 use site_model::Instance;
 use std::alloc::Global;
 use std::marker::Model;
-use text_lines::is_word;
+use text_lines::says;
 
 /// How many bytes are kept at most.
 const ROOM: usize = 400_000;
@@ -24,11 +25,11 @@ pub(super) struct Part {
 }
 
 impl Model for Part {
-    ghost use Rattle.std.specs.Prelude.{Option, Some, None, List, ℕ, ◌≤◌, vec_len, cond};
+    ghost use Rattle.std.specs.Prelude.{Option, Some, None, List, ℕ, ◌≤◌, vec_len, if◌then◌else◌};
 
     ghost Value = { Option (List ℕ) };
 
-    ghost view = { λ p. cond p.is_over None (Some p.bytes.items) };
+    ghost view = { λ p. if p.is_over then None else Some p.bytes.items };
 
     ghost invariant = { λ p. vec_len p.bytes ≤ 400000 };
 }
@@ -73,57 +74,68 @@ impl Part {
     }
 }
 
-impl<'a, S: Source> AnswerReader<'a, S> {
-    /// Reads the rest of a line into the part, with its line feed.
-    fn rest_of_line(&mut self, part: &mut Part) -> Result<(), AnswerError>
-        ensures same { source_of self.new ≡ source_of self.old }
-        ensures reads { IfSome (coming S.left self.old) (λ before. RestRead before (coming S.left self.new) part.old part.new result) }
-        ensures more { IsOk result → (read_of self.old < read_of self.new) × (read_of self.new ≤ answer_limit) }
-        ensures blames { Blames (faults_of S.faults self.old) (faults_of S.faults self.new) result }
-    {
-        while !self.next_piece()? {
-            part.add(self.text())?;
-        }
-        part.add(self.text())?;
+/// Reads the rest of a line into the part, with its line feed.
+fn read_rest<S: Source>(
+    lines: &mut AnswerLines,
+    source: &mut S,
+    part: &mut Part,
+) -> Result<(), AnswerError>
+    ensures reads { RestRead (stream S.left S.faults lines.old source.old)
+        (stream S.left S.faults lines.new source.new) part.old part.new result }
+    ensures more { IsOk result → (lines.old.read < lines.new.read) × (lines.new.read ≤ answer_limit) }
+{
+    while !lines.read_piece(source)? {
+        part.add(lines.text())?;
+    }
+    part.add(lines.text())?;
+    part.add(b"\n")?;
+    Ok(())
+}
+
+/// Reads a line into the part, with its line feed, and says whether it is the last one.
+fn read_part_line<S: Source>(
+    lines: &mut AnswerLines,
+    source: &mut S,
+    part: &mut Part,
+) -> Result<bool, AnswerError>
+    ensures reads { PartLineRead (stream S.left S.faults lines.old source.old)
+        (stream S.left S.faults lines.new source.new) part.old part.new result }
+    ensures more { IsOk result → (lines.old.read < lines.new.read) × (lines.new.read ≤ answer_limit) }
+{
+    let whole = lines.read_piece(source)?;
+    part.add(lines.text())?;
+    if whole {
         part.add(b"\n")?;
-        Ok(())
+        return Ok(says(lines.text(), b"end"));
     }
+    read_rest(lines, source, part)?;
+    Ok(false)
+}
 
-    /// Reads a line into the part, with its line feed, and says whether it is the last one.
-    fn part_line(&mut self, part: &mut Part) -> Result<bool, AnswerError>
-        ensures same { source_of self.new ≡ source_of self.old }
-        ensures reads { IfSome (coming S.left self.old) (λ before. PartLineRead before (coming S.left self.new) part.old part.new result) }
-        ensures more { IsOk result → (read_of self.old < read_of self.new) × (read_of self.new ≤ answer_limit) }
-        ensures blames { Blames (faults_of S.faults self.old) (faults_of S.faults self.new) result }
-    {
-        let whole = self.next_piece()?;
-        part.add(self.text())?;
-        if whole {
-            part.add(b"\n")?;
-            return Ok(is_word(self.text(), b"end"));
-        }
-        self.rest_of_line(part)?;
-        Ok(false)
-    }
+/// Reads the lines of the instance, to the first that is `end`.
+fn read_part<S: Source>(
+    alloc: Global,
+    lines: &mut AnswerLines,
+    source: &mut S,
+) -> Result<Part, AnswerError>
+    ensures { PartRead (stream S.left S.faults lines.old source.old)
+        (stream S.left S.faults lines.new source.new) result }
+{
+    let mut part = Part::new(alloc);
+    while !read_part_line(lines, source, &mut part)? {}
+    Ok(part)
+}
 
-    /// Reads the lines of the instance, to the first that is `end`.
-    fn part(&mut self, alloc: Global) -> Result<Part, AnswerError>
-        ensures same { source_of self.new ≡ source_of self.old }
-        ensures reads { IfSome (coming S.left self.old) (λ before. PartRead before (coming S.left self.new) result) }
-        ensures blames { Blames (faults_of S.faults self.old) (faults_of S.faults self.new) result }
-    {
-        let mut part = Part::new(alloc);
-        while !self.part_line(&mut part)? {}
-        Ok(part)
-    }
-
-    /// Reads the instance, whose text has to be the canonical one, of this version.
-    pub(super) fn instance(&mut self, alloc: Global, second: bool) -> Result<Instance, AnswerError>
-        ensures same { source_of self.new ≡ source_of self.old }
-        ensures reads { IfSome (coming S.left self.old) (λ before. ReadsTo (instance_part second before) (coming S.left self.new) result) }
-        ensures blames { Blames (faults_of S.faults self.old) (faults_of S.faults self.new) result }
-    {
-        let part = self.part(alloc)?;
-        canonical_instance(alloc, second, &part)
-    }
+/// Reads the instance, whose text has to be the canonical one, of this version.
+pub(super) fn read_instance_lines<S: Source>(
+    alloc: Global,
+    lines: &mut AnswerLines,
+    source: &mut S,
+    second: bool,
+) -> Result<Instance, AnswerError>
+    ensures { ReadInMemory (instance_part second) (stream S.left S.faults lines.old source.old)
+        (stream S.left S.faults lines.new source.new) result }
+{
+    let part = read_part(alloc, lines, source)?;
+    canonical_instance(alloc, second, &part)
 }

@@ -1,7 +1,7 @@
 //! Reading answers, whole ones and broken ones.
 
 ghost use Rattle.std.specs.Prelude.{◌≡◌, Some, [], IfOk, IfSome};
-ghost use Rattle.certificate.specs.ReaderView.{Blames};
+ghost use Rattle.certificate.specs.Blames.{Blames};
 
 use super::{AnswerError, AnswerReader, Item};
 use port_io::{MemSource, Source};

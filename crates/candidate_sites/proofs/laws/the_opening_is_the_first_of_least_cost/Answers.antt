@@ -1,4 +1,4 @@
-use Rattle.candidate_sites.proofs.Cheapest.{opening-first, opening-none}
+use Rattle.candidate_sites.proofs.OpeningLemmas.{opening-first, opening-none}
 use Rattle.candidate_sites.proofs.laws.the_opening_is_the_first_of_least_cost.Goals as goal
 
 pub returns-clause-first : goal.returns-clause-first

@@ -26,4 +26,4 @@ pub returns-clause-answers : goal.returns-clause-answers
 returns-clause-answers g c =
     let head = has_head _ _ _ c.in_ok-head.head c.new-reader.ensures.coming c.in_ok-head.ensures.reads in
     let marks = has_marks _ _ _ c.in_ok-head.head c.in_ok-tally.tally head c.in_ok-opening.ensures.fault c.in_ok-tally.ensures.reads in
-    accepts g.S.Source.left _ _ _ _ c.in_ok-head.head c.in_ok-tally.tally _ marks c.in_ok-finish.ensures.ends c.what_is_accepted.ensures (search rules)
+    accepts g.S.Source.left _ _ _ _ c.in_ok-head.head c.in_ok-tally.tally _ marks c.in_ok-finish.ensures.ends c.accepted_of.ensures (search rules)

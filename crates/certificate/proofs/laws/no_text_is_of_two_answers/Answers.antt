@@ -1,4 +1,4 @@
-use Rattle.certificate.proofs.TextLemmas.{answer_text_injective}
+use Rattle.certificate.proofs.AnswerTextLemmas.{answer_text_injective}
 use Rattle.certificate.proofs.laws.no_text_is_of_two_answers.Goals as goal
 
 pub returns : goal.returns

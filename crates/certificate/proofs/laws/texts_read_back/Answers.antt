@@ -1,4 +1,4 @@
-use Rattle.certificate.proofs.CanonicalForms.{read_node, node_back, read_end, end_back}
+use Rattle.certificate.proofs.MarkForms.{read_node, node_back, read_end, end_back}
 use Rattle.certificate.proofs.HeadLemmas.{read_head, head_back}
 use Rattle.certificate.proofs.laws.texts_read_back.Goals as goal
 

@@ -13,11 +13,11 @@ added_size area k i size small = omega (arith, ints)
 pub loop-i-preserved : goal.loop-i-preserved
 loop-i-preserved c =
     let few : c.loop-i.i < 64 = omega arith in
-    let ends = edge_read c.args.corners.now c.loop-i.i c.next_of.result c.index-corners-i.result c.index-corners-next_of.result c.loop-i-test.true c.index-corners-i.is c.next_of.ensures.value c.index-corners-next_of.is in
+    let ends = edge_read c.args.vertices.now c.loop-i.i c.next_of.result c.index-vertices-i.result c.index-vertices-next_of.result c.loop-i-test.true c.index-vertices-i.is c.next_of.ensures.value c.index-vertices-next_of.is in
     rw (added _ c.cross-area.result c.loop-i.i few c.loop-i.invariant.1 c.cross-area.ensures.size) (
-      area_more c.args.corners.now c.loop-i.i _ c.cross-area.result c.loop-i-test.true c.loop-i.invariant.0 (c.cross-area.ensures.value ∙ ap cross_of ends),
+      area_more c.args.vertices.now c.loop-i.i _ c.cross-area.result c.loop-i-test.true c.loop-i.invariant.0 (c.cross-area.ensures.value ∙ ap cross_of ends),
       added_size _ c.cross-area.result c.loop-i.i c.loop-i.invariant.1 c.cross-area.ensures.size,
     )
 
 pub returns : goal.returns
-returns c = area_all c.args.corners.now c.loop-i.i _ c.loop-i-test.false c.loop-i.invariant.0
+returns c = area_all c.args.vertices.now c.loop-i.i _ c.loop-i-test.false c.loop-i.invariant.0

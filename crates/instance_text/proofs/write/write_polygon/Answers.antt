@@ -1,18 +1,18 @@
 use Rattle.std.proofs.Common.{refl}
-use Rattle.port_io.proofs.PutLemmas.{Put-then, Put-stop}
+use Rattle.port_io.proofs.PutLemmas.{PutOn-then, PutOn-stop}
 use Rattle.instance_text.proofs.Written.{polygon_text-parts}
 use Rattle.instance_text.proofs.write.write_polygon.Goals as goal
 
-pub returns-in_err-put-clause-put : goal.returns-in_err-put-clause-put
-returns-in_err-put-clause-put g c =
-    rw (polygon_text-parts c.args.word.now c.args.polygon.now) (Put-stop _ refl c.from_residual.ensures.0 c.in_err-put.ensures.put)
+pub returns-in_err-put : goal.returns-in_err-put
+returns-in_err-put g c =
+    rw (polygon_text-parts c.args.word.now c.args.polygon.now) (PutOn-stop _ refl c.from_residual.ensures.0 c.in_err-put.ensures)
 
-pub returns-in_err-write_vertices-clause-put : goal.returns-in_err-write_vertices-clause-put
-returns-in_err-write_vertices-clause-put g c =
+pub returns-in_err-write_vertices : goal.returns-in_err-write_vertices
+returns-in_err-write_vertices g c =
     rw (polygon_text-parts c.args.word.now c.args.polygon.now)
-    (Put-then c.in_ok-put.ensures.put (Put-stop _ refl c.from_residual-in_err-write_vertices.ensures.0 c.in_err-write_vertices.ensures.put))
+    (PutOn-then c.in_ok-put.ensures (PutOn-stop _ refl c.from_residual-in_err-write_vertices.ensures.0 c.in_err-write_vertices.ensures))
 
-pub returns-clause-put : goal.returns-clause-put
-returns-clause-put g c =
+pub returns : goal.returns
+returns g c =
     rw (polygon_text-parts c.args.word.now c.args.polygon.now)
-    (Put-then c.in_ok-put.ensures.put (Put-then c.in_ok-write_vertices.ensures.put c.put-2.ensures.put))
+    (PutOn-then c.in_ok-put.ensures (PutOn-then c.in_ok-write_vertices.ensures c.put-2.ensures))

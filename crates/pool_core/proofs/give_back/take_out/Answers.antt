@@ -13,4 +13,4 @@ taken_out xs ys i x taken below at read rest =
 
 pub returns-clause-items : goal.returns-clause-items
 returns-clause-items c =
-    taken_out c.args.leased.now.items _ c.place_of-place.result c.args.entry.now c.swap_remove.result (search rules) (search rules) c.swap_remove.ensures.value c.swap_remove.ensures.items
+    taken_out c.args.leased.now.items _ c.index_of-index.result c.args.entry.now c.swap_remove.result (search rules) (search rules) c.swap_remove.ensures.value c.swap_remove.ensures.items

@@ -10,4 +10,4 @@ pub returns-clause-sound : goal.returns-clause-sound
 returns-clause-sound c = λ before after events sound run. sound_run events before after run sound
 
 pub returns-clause-tiles : goal.returns-clause-tiles
-returns-clause-tiles c = λ w sound. tree-tiles w.pool sound.consistent.tree
+returns-clause-tiles c = λ w sound. tree-tiles w.state sound.consistent.tree

@@ -11,23 +11,13 @@ use Rattle.siting_definitions.specs.Instance.{Instance}
 use Rattle.siting_definitions.specs.Marks.{IsCalledFor, MarkFits, MarksFit, is_split, leaf_mark, reaches}
 use Rattle.siting_definitions.specs.Square.{Square, quarter_of}
 use Rattle.siting_definitions.specs.Tree.{Tree, Leaf, Branch, Fits, preorder}
+use Rattle.siting_definitions.proofs.MarkLemmas.{leaf_unsplit}
 use Rattle.discard_log.specs.Nodes.{tree_square}
 use Rattle.discard_log.specs.declared.node.Node.{Node}
 use Rattle.pool_core.specs.Job.{Job, job_root, start_cost}
 use Rattle.pool_core.specs.Begun.{IsResumable, is_left_open}
 use Rattle.pool_core.proofs.Resumed.{nodes_size}
 use Rattle.pool_core.proofs.tests.nodes.Goals as goal
-
--- a finished mark of a leaf is no split
-leaf_unsplit : (i : Instance) (gap : ℤ) (u : Option ℤ) (s : Square) → is_split (leaf_mark i gap u s) ≡ false
-unfolding leaf_mark
-leaf_unsplit i gap u s = by_tests (is_excluded i s) (reaches u (fine_of i s +ℤ gap)) (s.level == 0) (fine_of i s)
-  where
-    by_tests : (excluded settled lowest : Bool) (b : ℤ) → is_split (cond excluded Shut (cond settled (Bounded b) (cond lowest (Floor b) (Left b)))) ≡ false
-    by_tests true settled lowest b = refl
-    by_tests false true lowest b = refl
-    by_tests false false true b = refl
-    by_tests false false false b = refl
 
 abbrev NodeFits : Job → Node → Type 0
 NodeFits j n = MarkFits j.instance j.gap (start_cost j) (tree_square n) n.mark

@@ -8,9 +8,9 @@ use Rattle.site_model.proofs.root.root_over.Goals as goal
 pub square_over-requires : goal.square_over-requires
 square_over-requires c =
     let ps = c.args.permitted.now in
-    let polygons = c.bounds_of_all.ensures.polygons in
-    subst IsBoxWithin (sym c.bounds_of_all.ensures.value) (IsBoxWithin-bounds (vertices ps) (some_vertices ps (omega arith) polygons) (places_of ps polygons))
+    let polygons = c.box_of_all.ensures.polygons in
+    subst IsBoxWithin (sym c.box_of_all.ensures.value) (IsBoxWithin-bounds (vertices ps) (some_vertices ps (omega arith) polygons) (places_of ps polygons))
 
 pub returns-clause-value : goal.returns-clause-value
 returns-clause-value c = λ i same.
-    c.square_over.ensures ∙ root_is c.bounds_of_all.result c.args.permitted.now i c.bounds_of_all.ensures.value same
+    c.square_over.ensures ∙ root_is c.box_of_all.result c.args.permitted.now i c.box_of_all.ensures.value same

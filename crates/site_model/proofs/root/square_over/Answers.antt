@@ -25,25 +25,25 @@ digits_by x0 y0 x1 y1 e w h m n fx0 fy0 fx1 fy1 width height most digits at_x0 a
     ∙ ap (λ k. max (k / 65536) (h / 65536)) wide
     ∙ ap (λ k. max (unsigned_abs (e.x1 -ℤ e.x0) / 65536) (k / 65536)) high))
 
-level_is : (c : goal.After-digits) → 16 + c.digits.result ≡ (square_of_box c.args.bounds).level
+level_is : (c : goal.After-binary_digits) → 16 + c.binary_digits.result ≡ (square_of_box c.args.bounds).level
 level_is c =
     let b = c.bounds.inside in
-    digits_by b.x0 b.y0 b.x1 b.y1 c.args.bounds c.abs_diff-width.result c.abs_diff-height.result c.max.result c.digits.result
-    (search rules) (search rules) (search rules) (search rules) c.abs_diff-width.ensures c.abs_diff-height.ensures c.max.ensures c.digits.ensures
+    digits_by b.x0 b.y0 b.x1 b.y1 c.args.bounds c.abs_diff-width.result c.abs_diff-height.result c.max.result c.binary_digits.result
+    (search rules) (search rules) (search rules) (search rules) c.abs_diff-width.ensures c.abs_diff-height.ensures c.max.ensures c.binary_digits.ensures
     (ap (λ (e : Extent). e.x0) c.bounds.view_is) (ap (λ (e : Extent). e.y0) c.bounds.view_is) (ap (λ (e : Extent). e.x1) c.bounds.view_is) (ap (λ (e : Extent). e.y1) c.bounds.view_is)
 
-pub overflow_add-digits : goal.overflow_add-digits
-overflow_add-digits c =
+pub overflow_add-binary_digits : goal.overflow_add-binary_digits
+overflow_add-binary_digits c =
     let square = IsSquare-over c.args.bounds c.requires in
-    let small : 16 + c.digits.result ≤ 37 = omega (arith, level_is c, square.level) in
+    let small : 16 + c.binary_digits.result ≤ 37 = omega (arith, level_is c, square.level) in
     search rules
 
 pub of-requires : goal.of-requires
 of-requires c =
     let b = c.bounds.inside in
-    IsSquare-by c.args.bounds _ _ (16 + c.digits.result) c.requires
+    IsSquare-by c.args.bounds _ _ (16 + c.binary_digits.result) c.requires
     (to_z-of_z w64 b.x0 (search rules) ∙ ap (λ (e : Extent). e.x0) c.bounds.view_is)
     (to_z-of_z w64 b.y0 (search rules) ∙ ap (λ (e : Extent). e.y0) c.bounds.view_is)
-    (digits_by b.x0 b.y0 b.x1 b.y1 c.args.bounds c.abs_diff-width.result c.abs_diff-height.result c.max.result c.digits.result
-    (search rules) (search rules) (search rules) (search rules) c.abs_diff-width.ensures c.abs_diff-height.ensures c.max.ensures c.digits.ensures
+    (digits_by b.x0 b.y0 b.x1 b.y1 c.args.bounds c.abs_diff-width.result c.abs_diff-height.result c.max.result c.binary_digits.result
+    (search rules) (search rules) (search rules) (search rules) c.abs_diff-width.ensures c.abs_diff-height.ensures c.max.ensures c.binary_digits.ensures
     (ap (λ (e : Extent). e.x0) c.bounds.view_is) (ap (λ (e : Extent). e.y0) c.bounds.view_is) (ap (λ (e : Extent). e.x1) c.bounds.view_is) (ap (λ (e : Extent). e.y1) c.bounds.view_is))

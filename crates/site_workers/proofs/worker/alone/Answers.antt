@@ -2,7 +2,7 @@ use Rattle.std.proofs.Common.{◌≡◌, ℤ, Option, sym, ap, ◌∙◌, subst,
 use Rattle.siting_definitions.specs.Point.{Pt}
 use Rattle.pool_core.specs.Job.{Job, IsJob}
 use Rattle.site_workers.specs.Search.{IsBetween}
-use Rattle.site_workers.proofs.SearchLemmas.{begun, leased_one, turned, ends, stopped}
+use Rattle.site_workers.proofs.SearchLemmas.{begun, ended_by, ended_with, kept_by_one, leased_one, turned, ends, stopped}
 use Rattle.site_workers.proofs.worker.alone.Goals as goal
 
 pub loop-lease-init : goal.loop-lease-init
@@ -38,11 +38,26 @@ returns-in-Stopped-clause-finished c =
 pub returns-in-Stopped-clause-searched : goal.returns-in-Stopped-clause-searched
 returns-in-Stopped-clause-searched c =
     ends c.args.job.now c.args.pool c.loop-lease.pool c.lease.new.self c.loop-lease.best c.loop-lease.invariant c.in-Stopped.ensures.1
+    (ended_by c.lease.new.self c.in-Stopped.field-0 c.in-Stopped.ensures.0)
 
 pub returns-in-Done-clause-searched : goal.returns-in-Done-clause-searched
 returns-in-Done-clause-searched c =
     ends c.args.job.now c.args.pool c.loop-lease.pool c.lease.new.self c.loop-lease.best c.loop-lease.invariant (inl c.in-Done.ensures.3)
+    (ended_with c.loop-lease.pool c.lease.new.self c.in-Done.ensures.3 c.in-Done.ensures.1)
 
 pub returns-in-Idle-clause-searched : goal.returns-in-Idle-clause-searched
 returns-in-Idle-clause-searched c =
     ends c.args.job.now c.args.pool c.loop-lease.pool c.lease.new.self c.loop-lease.best c.loop-lease.invariant (inl c.in-Idle.ensures.3)
+    (ended_with c.loop-lease.pool c.lease.new.self c.in-Idle.ensures.3 c.in-Idle.ensures.1)
+
+pub returns-in-Stopped-clause-seats : goal.returns-in-Stopped-clause-seats
+returns-in-Stopped-clause-seats c =
+    kept_by_one c.loop-lease.pool c.lease.new.self c.loop-lease.invariant.leased c.loop-lease.invariant.kept c.in-Stopped.ensures.1
+
+pub returns-in-Done-clause-seats : goal.returns-in-Done-clause-seats
+returns-in-Done-clause-seats c =
+    kept_by_one c.loop-lease.pool c.lease.new.self c.loop-lease.invariant.leased c.loop-lease.invariant.kept (inl c.in-Done.ensures.3)
+
+pub returns-in-Idle-clause-seats : goal.returns-in-Idle-clause-seats
+returns-in-Idle-clause-seats c =
+    kept_by_one c.loop-lease.pool c.lease.new.self c.loop-lease.invariant.leased c.loop-lease.invariant.kept (inl c.in-Idle.ensures.3)

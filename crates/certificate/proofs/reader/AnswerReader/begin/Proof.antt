@@ -48,18 +48,18 @@ use Rattle.std.specs.contracts.alloc.Global as global
 use Rattle.std.proofs.alloc.Global.TheLaws as global_laws
 use Rattle.std.specs.contracts.result.Result as result
 use Rattle.certificate.specs.HeadReading.{coming_of, head_reading}
-use Rattle.certificate.specs.ReaderView.{coming, source_of, faults_of, BeginsAs, Blames}
-use Rattle.certificate.specs.Beginnings.{coming_then, ReadsHead}
+use Rattle.certificate.specs.ReaderView.{coming, source_of, stream_of, BeginsAs}
+use Rattle.certificate.specs.Beginnings.{coming_then, start_of, ReadsHead, BeginRead, HeadRead, LeavesAs}
 use Rattle.certificate.specs.contracts.reader.beginning.Beginning as beginning
 use Rattle.certificate.proofs.reader.beginning.Beginning.TheLaws as beginning_laws
 use Rattle.certificate.specs.contracts.reader.AnswerError as error
 use Rattle.certificate.proofs.reader.AnswerError.TheLaws as error_laws
 use Rattle.certificate.specs.contracts.reader.AnswerReader as reader
 use Rattle.certificate.proofs.reader.AnswerReader.TheLaws as reader_laws
-use Rattle.certificate.specs.contracts.head.Head as answer_head
-use Rattle.certificate.proofs.head.Head.TheLaws as head_laws
+use Rattle.answer_model.specs.contracts.head.Head as answer_head
+use Rattle.answer_model.proofs.head.Head.TheLaws as head_laws
 use Rattle.certificate.proofs.Lending.{lone, typed, sorted, live_typed, ok_of, err_of, rests_at_ok, rests_at_err}
-use Rattle.certificate.proofs.BeginLemmas.{begins_after, fails_after, blames_as}
+use Rattle.certificate.proofs.BeginLemmas.{begins_after, fails_after, read_after}
 use Rattle.certificate.specs.contracts.reader.beginning.read_beginning as g
 use Rattle.certificate.proofs.reader.beginning.read_beginning.Met as g-thm
 use Rattle.certificate.specs.contracts.reader.AnswerReader.after as k
@@ -85,7 +85,8 @@ begin_spec 𝓤 𝓛 𝓜 𝓡 wired S L ghosts dict met =
     let name : Tup.Denot → ℕ = λ made. source_of made.0 in let bytes = ghosts.left x in
     let Reads : S.Denot → In.Denot → Type 0 = λ y u. IfSome bytes (λ bs. ReadsHead (head_reading (coming_of bs)) (ghosts.left y) u) in
     let Begins : Out.Denot → Type 0 = λ u. IfSome bytes (λ bs. BeginsAs ghosts.left (head_reading (coming_of bs)) u) in
-    let LaterThan : ℕ → Type 0 = λ n. ghosts.faults x ≤ n in
+    let start = start_of bytes (ghosts.faults x) in let ReadTo : S.Denot → In.Denot → Type 0 = λ y u. BeginRead start (ghosts.left y) (ghosts.faults y) u in
+    let Leaves : Out.Denot → S.Denot → Type 0 = λ u y. LeavesAs start (ghosts.left y) (ghosts.faults y) u in
     let handle = lone Z global_laws.the_row_laws 𝓛 a z.0.4.0 are.0 in let h : Val = handle.0 in let told = mut_Tells (named 0) κ R s z.0.4.1.0 are.1.0 in
     let Ref : Lft → ℕ → S.Denot → Fml = λ η δ y. (MutRef (named 0) η R).own_val (record { ref_ptr = (b, o); ghost_name = δ; now = y }) (vptr b o ∷ []) in
     qed 𝓛 (((‵ (flft κ q) ⊛ ‵ (flft μ r) ⊛ ‵ ftrue) ⊛ ‵ (owns (types_at En.signature.params κs) z.0.3 z.0.4)) ∷ raw ((c κs z.0.3).requires z.1) ∷ []) ∵
@@ -110,13 +111,13 @@ begin_spec 𝓤 𝓛 𝓜 𝓡 wired S L ghosts dict met =
     use0 𝓛 (raw (emp 𝓤)) (id⊢ 𝓤 (emp 𝓤)) $ move ! (1 ∷ 0 ∷ []) $ join ! $ move ! (1 ∷ 0 ∷ []) $ join ! $ use1 𝓛 (raw (G.pre y)) (id⊢ 𝓤 _) $
     calls_at ! (framed 𝓤 H 𝓜 𝓣) G (g-thm.met 𝓤 𝓛 𝓜 𝓡 (code.calls-certificate::reader::beginning::read_beginning 𝓡.env wired) S L ghosts dict met) y (and_then ! (get ! refl) (and_then ! (get ! refl) (no_more !))) (λ v.
     use1 𝓛 (later (some (λ (u : In.Denot). ((‵ (flft ν (left t)) ⊛ ‵ (flft ν (right t)) ⊛ ‵ ftrue) ⊛ ‵ (In.own_val u (v ∷ []))) ⊛
-    some (λ (ws : Lasts (g.ended S ghosts dict) y.0.0 y.0.3). ‵ (lasts (g.ended S ghosts dict) y.0.0 y.0.3 ws) ⊛ raw (fact 𝓤 (Reads ws.1.0 u)) ⊛ raw (fact 𝓤 (Blames (ghosts.faults x) (ghosts.faults ws.1.0) u)))))) (id⊢ 𝓤 _) $
+    some (λ (ws : Lasts (g.ended S ghosts dict) y.0.0 y.0.3). ‵ (lasts (g.ended S ghosts dict) y.0.0 y.0.3 ws) ⊛ raw (fact 𝓤 (Reads ws.1.0 u)) ⊛ raw (fact 𝓤 (ReadTo ws.1.0 u)))))) (id⊢ 𝓤 _) $
     await ! tt $ pick ! (λ read. split ! $ split ! $
     -- [the new lifetime's token; what was read; the source's last value; what the lender keeps; the way back]. The lifetime ends, and the source comes back
     split ! $ move ! (1 ∷ []) $ split ! $ move ! (2 ∷ 0 ∷ []) $ use2 𝓛 (‵ (flft ν t)) (𝓛.lfts.lft_join ν t) $ move ! (0 ∷ 5 ∷ []) $
     use2 𝓛 (‵ (flft (α ∷ []) full_share) ⊛ ‵ (flft μ r)) (apply∗ 𝓤 (𝓛.A.lft ν t) (sep 𝓤 (𝓛.A.lft (α ∷ []) full_share) (𝓛.A.lft μ r))) $ split ! $ lft_end ! tt $
     use1 𝓛 (‵ (fdead ν)) (𝓛.lfts.dead-incl ν (α ∷ []) (meet_⊑_left (α ∷ []) μ)) $ move ! (4 ∷ []) $ pick ! (λ ws. split ! $ move ! (1 ∷ []) $ split ! $ let last : S.Denot = ws.1.0 in
-    heard ! (Reads last read) (λ reads. heard ! (Blames (ghosts.faults x) (ghosts.faults last) read) (λ blames. fsplit ! $ move ! (1 ∷ []) $ fsplit ! $ fsplit ! $ move ! (4 ∷ 8 ∷ 0 ∷ []) $
+    heard ! (Reads last read) (λ reads. heard ! (ReadTo last read) (λ read_to. fsplit ! $ move ! (1 ∷ []) $ fsplit ! $ fsplit ! $ move ! (4 ∷ 8 ∷ 0 ∷ []) $
     use3 𝓛 (later (‵ (Ref κ γ last) ⊛ ‵ (flft κ q))) (comes_back 𝓛 R (named 0) κ ν q γ b o δ x last) $ await ! tt $ split ! $
     move ! (2 ∷ 3 ∷ 4 ∷ 6 ∷ []) $ drop ! $ drop ! $ drop ! $ drop ! $ move ! (3 ∷ []) $
     -- [what was read; the source; the token of its lifetime; the token of the type's]
@@ -138,17 +139,17 @@ begin_spec 𝓤 𝓛 𝓜 𝓡 wired S L ghosts dict met =
           calls_at ! (framed 𝓤 H 𝓜 𝓣) G' (k-thm.met 𝓤 𝓛 𝓜 𝓡 (code.calls-certificate::reader::AnswerReader::after 𝓡.env wired) S L ghosts dict met) y' (and_then ! (get ! refl) (and_then ! (get ! refl) (no_more !))) (λ w.
           use1 𝓛 (later (some (λ (made : Tup.Denot). ((‵ (flft κ q) ⊛ ‵ (flft μ r) ⊛ ‵ ftrue) ⊛ ‵ (Tup.own_val made (w ∷ []))) ⊛
           some (λ (ws : Lasts (k.ended S ghosts dict) y'.0.0 y'.0.3). ‵ (lasts (k.ended S ghosts dict) y'.0.0 y'.0.3 ws) ⊛ raw (fact 𝓤 (name made ≡ γ)) ⊛ raw (fact 𝓤 (coming ghosts.left made.0 ≡ coming_then (ghosts.left last) p)) ⊛
-          raw (fact 𝓤 (faults_of ghosts.faults made.0 ≡ ghosts.faults last)) ⊛ raw (fact 𝓤 (made.1 ≡ p.head)))))) (id⊢ 𝓤 _) $
+          raw (fact 𝓤 (stream_of ghosts.left ghosts.faults made.0 ≡ record { lines = p.lines; left = ghosts.left last; faults = ghosts.faults last })) ⊛ raw (fact 𝓤 (made.1 ≡ p.head)))))) (id⊢ 𝓤 _) $
           await ! tt $ pick ! (λ made. split ! $ split ! $ move ! (2 ∷ []) $ pick ! (λ ws'. split ! $ drop ! $ split ! $
-          heard ! (name made ≡ γ) (λ same. split ! $ heard ! (coming ghosts.left made.0 ≡ coming_then (ghosts.left last) p) (λ comes. split ! $ heard ! (faults_of ghosts.faults made.0 ≡ ghosts.faults last) (λ faults. heard ! (made.1 ≡ p.head) (λ its_head. move ! (1 ∷ []) $
+          heard ! (name made ≡ γ) (λ same. split ! $ heard ! (coming ghosts.left made.0 ≡ coming_then (ghosts.left last) p) (λ comes. split ! $ heard ! (stream_of ghosts.left ghosts.faults made.0 ≡ record { lines = p.lines; left = ghosts.left last; faults = ghosts.faults last }) (λ streams. heard ! (made.1 ≡ p.head) (λ its_head. move ! (1 ∷ []) $
           -- [the reader and the head; the two tokens]
           peeks ! Tup (Is Tup) (shows 𝓛 Tup) made (w ∷ []) (λ is'. let whole_typed = live_typed 0 (lit< tt) (layout Tup) w (typed Tup LTup 𝓛 made w is') in
           lands_as ! refl refl (typed Tup LTup 𝓛 made w is') $ sets_last ! (agg ! (and_then ! (lit ! tt) (and_then ! (get ! refl) (no_more !)))) refl whole_typed $
           exec ! 𝓣.C 𝓣.Λ Ev (after 3 fn.body) (at_ret Ev Post) $ sets ! (of_opd ! (get ! refl)) refl whole_typed $ use1 𝓛 (‵ (Out.own_val (begun made) (live 0 (of_list (w ∷ [])) ∷ []))) (ok_of 𝓛 Tup Er made w) $
           use0 𝓛 (raw (fact 𝓤 (Begins (begun made)))) (fact_i 𝓤 _ (emp 𝓤) (begins_after ghosts.left (λ bs. head_reading (coming_of bs)) last p made bytes comes its_head (subst (λ (u : In.Denot). Reads last u) found.1 reads))) $
-          use0 𝓛 (raw (fact 𝓤 (LaterThan (faults_of ghosts.faults made.0)))) (fact_i 𝓤 _ (emp 𝓤) (subst LaterThan (sym faults) blames.later)) $ join ! $
+          use0 𝓛 (raw (fact 𝓤 (HeadRead ghosts.left ghosts.faults start made))) (fact_i 𝓤 _ (emp 𝓤) (read_after ghosts.left ghosts.faults start last p made streams its_head (subst (λ (u : In.Denot). ReadTo last u) found.1 read_to))) $ join ! $
           use0 𝓛 (raw (fact 𝓤 (name made ≡ γ))) (fact_i 𝓤 _ (emp 𝓤) same) $ join ! $
-          use0 𝓛 (raw (sem 𝓛 (RestsIfErr R s name (begun made) (λ y. Blames (ghosts.faults x) (ghosts.faults y) (begun made))))) (rests_at_ok 𝓛 R Tup.Denot Er.Denot s name (λ y. Blames (ghosts.faults x) (ghosts.faults y) (begun made)) made same) $ join ! $
+          use0 𝓛 (raw (sem 𝓛 (RestsIfErr R s name (begun made) (λ y. Leaves (begun made) y)))) (rests_at_ok 𝓛 R Tup.Denot Er.Denot s name (λ y. Leaves (begun made) y) made same) $ join ! $
           returns ! (look_at ! 0 refl) $ free_all ! refl $ nothing ! $ nothing ! $ fjoin ! $ nothing ! $ fjoin ! $ keep ! (3 ∷ 0 ∷ 2 ∷ 1 ∷ []) $ by ! (leaves 𝓛 En hs c z (live 0 (of_list (w ∷ []))) (begun made) (tt, (tt, tt)) (tt, (tt, tt)))))))))))))))))
       | inr refused ↦ (
           let e : Er.Denot = refused.0 in
@@ -162,8 +163,8 @@ begin_spec 𝓤 𝓛 𝓜 𝓡 wired S L ghosts dict met =
           exec ! 𝓣.C 𝓣.Λ Ev (after 3 fn.body) (at_ret Ev Post) $ sets ! (of_opd ! (get ! refl)) refl whole_typed $
           -- the source is given up, at its last value
           move ! (1 ∷ []) $ fsplit3 ! $ drop ! $ name_done ! tt $
-          use1 𝓛 (raw (sem 𝓛 (RestsIfErr R s name (failed e) (λ y. Blames (ghosts.faults x) (ghosts.faults y) (failed e)))))
-          (rests_at_err 𝓛 R Tup.Denot Er.Denot s name (λ y. Blames (ghosts.faults x) (ghosts.faults y) (failed e)) e last (blames_as _ _ e (subst (λ (u : In.Denot). Blames (ghosts.faults x) (ghosts.faults last) u) refused.1 blames))) $
+          use1 𝓛 (raw (sem 𝓛 (RestsIfErr R s name (failed e) (λ y. Leaves (failed e) y))))
+          (rests_at_err 𝓛 R Tup.Denot Er.Denot s name (λ y. Leaves (failed e) y) e last (subst (λ (u : In.Denot). ReadTo last u) refused.1 read_to)) $
           move ! (1 ∷ []) $ drop ! $
           use0 𝓛 (raw (fact 𝓤 (Begins (failed e)))) (fact_i 𝓤 _ (emp 𝓤) (fails_after ghosts.left (λ bs. head_reading (coming_of bs)) last e bytes (subst (λ (u : In.Denot). Reads last u) refused.1 reads))) $
           use0 𝓛 (raw (fact 𝓤 (Unit {0}))) (fact_i 𝓤 (Unit {0}) (emp 𝓤) tt) $ join ! $ use0 𝓛 (raw (fact 𝓤 (Unit {0}))) (fact_i 𝓤 (Unit {0}) (emp 𝓤) tt) $ join ! $ move ! (1 ∷ 0 ∷ []) $ join ! $ move ! (1 ∷ []) $

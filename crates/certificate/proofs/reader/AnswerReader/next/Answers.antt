@@ -1,13 +1,13 @@
-use Rattle.std.proofs.Common.{refl}
 use Rattle.certificate.specs.Forms.{item_form}
-use Rattle.certificate.specs.ReaderView.{coming}
-use Rattle.certificate.proofs.LineLemmas.{formed_or}
-use Rattle.certificate.proofs.ShortLemmas.{item_short}
+use Rattle.certificate.specs.HeadReading.{formed}
+use Rattle.certificate.proofs.ReadLemmas.{reads_to, takes_none}
 use Rattle.certificate.proofs.reader.AnswerReader.next.Goals as goal
 
 pub returns-clause-reads : goal.returns-clause-reads
-returns-clause-reads g c =
-    let left = g.S.Source.left in
-    let now = c.next_line.new.self in
-    formed_or item_form refl item_short (coming left c.args.self.now) now.place.read _ _ now.held (left now.source.now) _ _ _ _
-    c.in_ok-next_line.ensures.reads c.or_bad.ensures c.item_form.ensures c.text.ensures c.line.ensures
+returns-clause-reads g c = reads_to (formed item_form) _ _ _ c.read_item.ensures
+
+pub returns-clause-memory : goal.returns-clause-memory
+returns-clause-memory g c = takes_none (formed item_form) _ _ _ c.read_item.ensures
+
+pub returns-clause-blames : goal.returns-clause-blames
+returns-clause-blames g c = c.read_item.ensures.blames

@@ -6,4 +6,4 @@ use Rattle.convex_region.proofs.Edges.{beside}
 use Rattle.convex_region.proofs.polygon.Polygon.covers.Given as goal
 
 abbrev pub invariant-loop-i : goal.invariant-loop-i
-invariant-loop-i l = list_all (beside (point_of l.p)) (take l.i (edges l.corners)) ≡ true
+invariant-loop-i l = list_all (beside (point_of l.p)) (take l.i (edges l.vertices)) ≡ true

@@ -1,7 +1,7 @@
-use Rattle.discard_log.proofs.NodeLemmas.{set-remarked}
+use Rattle.discard_log.proofs.NodeLemmas.{set-mark}
 use Rattle.discard_log.proofs.log.NodeList.remark.Goals as goal
 
 pub returns : goal.returns
 returns c =
     rw (← c.self.view_is)
-    (set-remarked c.self.inside.nodes.items c.args.i c.index_mut-node.result.now c.args.mark (rw c.self.view_is c.requires.place) c.index_mut-node.ensures.value)
+    (set-mark c.self.inside.nodes.items c.args.i c.index_mut-node.result.now c.args.mark (rw c.self.view_is c.requires.index) c.index_mut-node.ensures.value)

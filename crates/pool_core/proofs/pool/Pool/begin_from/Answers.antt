@@ -5,8 +5,9 @@ use Rattle.discard_log.specs.declared.node.Node.{Node}
 use Rattle.pool_core.specs.declared.pool.Pool.TheInside.{Inside}
 use Rattle.pool_core.specs.Job.{Job}
 use Rattle.pool_core.specs.Begun.{IsBegunFrom, IsResumable}
-use Rattle.pool_core.specs.Inside.{state_of}
-use Rattle.pool_core.proofs.Resumed.{IsBegun, begun_fits, begun_state, closed_length, left_length}
+use Rattle.pool_core.specs.Pool.{state_of}
+use Rattle.pool_core.proofs.BegunLemmas.{waiting_count}
+use Rattle.pool_core.proofs.Resumed.{IsBegun, begun_fits, begun_state, closed_length}
 use Rattle.pool_core.proofs.pool.Pool.begin_from.Goals as goal
 
 pub sort_out-requires-clause-log : goal.sort_out-requires-clause-log
@@ -16,7 +17,7 @@ sort_out-requires-clause-log c =
 
 pub overflow_sub-result : goal.overflow_sub-result
 overflow_sub-result c =
-    let left = left_length c.nodes-nodes.result.now c.sort_out.new.waiting.entries c.sort_out.ensures.waiting in
+    let left = waiting_count c.nodes-nodes.result.now c.sort_out.new.waiting.entries c.sort_out.ensures.waiting in
     omega (arith, closed_length c.nodes-nodes.result.now, left, c.len-open.ensures)
 
 job_of : goal.After-len-open → Job

@@ -10,7 +10,7 @@ use Rattle.discard_log.specs.Nodes.{tree_square}
 use Rattle.pool_core.specs.Job.{job_root}
 use Rattle.pool_core.specs.State.{State, entry_square, squares_of}
 use Rattle.pool_core.specs.Begun.{left_of}
-use Rattle.pool_core.specs.Inside.{state_of}
+use Rattle.pool_core.specs.Pool.{state_of}
 use Rattle.pool_core.proofs.pool.Pool.into_nodes.Goals as goal
 
 left_squares : (es : List Entry) → map tree_square (map left_of es) ≡ map entry_square es

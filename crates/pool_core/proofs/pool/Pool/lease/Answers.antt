@@ -4,7 +4,7 @@ use Rattle.pool_core.specs.declared.stop.Stop.{Stop}
 use Rattle.pool_core.specs.declared.pool.Pool.TheInside.{Inside}
 use Rattle.pool_core.specs.State.{State}
 use Rattle.pool_core.specs.Machine.{Leases}
-use Rattle.pool_core.specs.Inside.{state_of}
+use Rattle.pool_core.specs.Pool.{state_of}
 use Rattle.pool_core.proofs.Leasing.{IsLeasing, leasing_fits, leasing_step}
 use Rattle.pool_core.proofs.pool.Pool.lease.Goals as goal
 

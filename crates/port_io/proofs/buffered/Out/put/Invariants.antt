@@ -1,13 +1,12 @@
-use Rattle.std.proofs.Common.{◌≡◌, ◌≤◌, ◌-◌, length, take, Ok}
-use Rattle.port_io.specs.Output.{Put, sink_of, stage}
+use Rattle.std.proofs.Common.{◌≤◌, ◌-◌, length, take, Ok}
+use Rattle.port_io.specs.Output.{PutOn}
 use Rattle.port_io.proofs.buffered.Out.put.Given as goal
 
 -- the bytes before `at` were put
 abbrev pub invariant-loop-at : goal.invariant-loop-at
 invariant-loop-at g l = record {
   within : l.at ≤ length l.bytes;
-  same : sink_of l.self ≡ sink_of l.fn.self;
-  put : Put {T = Unit {0}} {E = Unit {0}} (stage g.K.Sink.room g.K.Sink.taken g.K.Sink.faults l.fn.self) (stage g.K.Sink.room g.K.Sink.taken g.K.Sink.faults l.self) (take l.at l.bytes) (Ok tt);
+  put : PutOn {T = Unit {0}} {E = Unit {0}} g.K.Sink.room g.K.Sink.taken g.K.Sink.faults l.fn.self l.self (take l.at l.bytes) (Ok tt);
 }
 
 -- each turn puts a byte at least

@@ -1,0 +1,3 @@
+pub mod ClaimsLemmas
+pub mod TallyLemmas
+pub mod NodesLemmas

@@ -1,0 +1,4 @@
+pub mod Head
+pub mod HeadFields
+pub mod Nodes
+pub mod Tally

@@ -1,0 +1,15 @@
+-- Each answer of a command is one that is wanted.
+use Rattle.std.proofs.Common.{ℕ, List, Option, None, Some}
+use Rattle.command_line.specs.declared.command.Command.{Command}
+use Rattle.command_line.specs.declared.command.Command.TheVariants.{Solve, Check, Make, Trial}
+use Rattle.bsss_cli.specs.declared.status.Status.{Status}
+use Rattle.bsss_cli.specs.Commands.{promise_of}
+use Rattle.bsss_cli.proofs.SolveLemmas.{solve_wants}
+use Rattle.bsss_cli.proofs.CheckLemmas.{check_wants}
+
+pub command_wants : (command : Option Command) (told : Option (List ℕ)) (status : Status) (text : List ℕ) → (promise_of command).answers told status text → (promise_of command).wanted told status
+command_wants None told status text h = tt
+command_wants (Some (Solve s)) told status text h = solve_wants s told status text h
+command_wants (Some Check) told status text h = check_wants told status text h
+command_wants (Some (Make seed points)) told status text h = h.0
+command_wants (Some (Trial seed points s)) told status text h = tt

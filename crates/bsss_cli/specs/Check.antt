@@ -1,0 +1,36 @@
+-- What a check answers.
+use Rattle.std.specs.Prelude.{◌≡◌, ℕ, true, List, Option, IfSome, Err}
+use Rattle.siting_definitions.specs.AnswerText.{answer_text}
+use Rattle.siting_definitions.specs.Answer.{Answer, IsValid}
+use Rattle.siting_definitions.specs.Claims.{Claims}
+use Rattle.cert_checker.specs.declared.faults.CheckError.TheVariants as errors
+use Rattle.cert_checker.specs.Checking.{checking}
+use Rattle.bsss_cli.specs.declared.status.Status.{Status}
+use Rattle.bsss_cli.specs.declared.status.Status.TheVariants.{Accepted, Rejected, TooLong}
+use Rattle.bsss_cli.specs.Texts.{too_long, accepted, rejected}
+use Rattle.bsss_cli.specs.Outcome.{Promise}
+
+-- the bytes are the text of a valid answer, which then claims no more than holds
+pub record IsAccepted (bytes : List ℕ) : Type 0 where
+  pub answer : Answer
+  pub text : bytes ≡ answer_text answer
+  pub valid : IsValid answer
+  pub claims : Claims answer.head
+
+-- What a check may answer, and the text that it writes then: each status only where its condition on
+-- the bytes holds; no two hold at once.
+abbrev pub CheckAnswers : Option (List ℕ) → Status → List ℕ → Type 0
+CheckAnswers told Accepted text = (text ≡ accepted) × IfSome told IsAccepted
+CheckAnswers told (Rejected fault) text =
+    (text ≡ rejected fault) × IfSome told (λ bytes. checking bytes ≡ Err (errors.Fault fault))
+CheckAnswers told TooLong text =
+    (text ≡ too_long) × IfSome told (λ bytes. checking bytes ≡ Err errors.TooLong)
+CheckAnswers told _ text = ⊥
+
+-- acceptance of each valid answer
+abbrev pub CheckWants : Option (List ℕ) → Status → Type 0
+CheckWants told status =
+    IfSome told (λ bytes. (a : Answer) → IsValid a → bytes ≡ answer_text a → status ≡ Accepted)
+
+abbrev pub check : Promise
+check = record { reads = true; answers = CheckAnswers; wanted = CheckWants }

@@ -1,0 +1,14 @@
+-- What `make` answers.
+use Rattle.std.specs.Prelude.{◌≡◌, ℕ, false}
+use Rattle.siting_definitions.specs.InstanceText.{instance_text}
+use Rattle.case_maker.specs.Made.{made}
+use Rattle.bsss_cli.specs.declared.status.Status.TheVariants.{Made}
+use Rattle.bsss_cli.specs.Outcome.{Promise}
+
+-- the text of the made instance
+abbrev pub make : ℕ → ℕ → Promise
+make seed points = record {
+  reads = false;
+  answers = λ told status text. (status ≡ Made) × (text ≡ instance_text (made seed points));
+  wanted = λ told status. status ≡ Made;
+}

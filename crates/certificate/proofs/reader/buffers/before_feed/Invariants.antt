@@ -1,7 +1,0 @@
-use Rattle.std.proofs.Common.{◌≡◌, ◌+◌, drop}
-use Rattle.std.specs.List.{prefix_len}
-use Rattle.certificate.specs.Feeds.{is_no_feed}
-use Rattle.certificate.proofs.reader.buffers.before_feed.Given as goal
-
-abbrev pub invariant-loop-i : goal.invariant-loop-i
-invariant-loop-i l = prefix_len is_no_feed l.bytes ≡ l.i + prefix_len is_no_feed (drop l.i l.bytes)

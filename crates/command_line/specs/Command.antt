@@ -1,0 +1,36 @@
+-- The ranges of a command's numbers, and which command wants a team.
+use Rattle.std.specs.Prelude.{ℕ, ◌^◌, ◌≤◌, nat_le, Bool, false, pos, ◌≤ℤ◌, ⊤, Option, Some}
+use Rattle.siting_definitions.specs.declared.GapRule.{GapRule}
+use Rattle.siting_definitions.specs.declared.GapRule.TheVariants.{Fixed, Ppm}
+use Rattle.command_line.specs.declared.command.Settings.{Settings}
+use Rattle.command_line.specs.declared.command.Command.{Command}
+use Rattle.command_line.specs.declared.command.Command.TheVariants.{Solve, Check, Make, Trial}
+
+-- the ranges of the numbers of a rule for the gap
+abbrev pub IsGapRule : GapRule → Type 0
+IsGapRule (Fixed gap) = ((pos 0) ≤ℤ gap) × (gap ≤ℤ pos (2 ^ 62))
+IsGapRule (Ppm ppm) = ppm ≤ 1000000
+
+-- the ranges of settings
+pub record IsSettings (s : Settings) : Type 0 where
+  pub gap : IsGapRule s.gap
+  pub budget : s.budget ≤ 1000000
+  pub pool : (1 ≤ s.pool) × (s.pool ≤ 1000000)
+  pub workers : (1 ≤ s.workers) × (s.workers ≤ 64)
+
+-- the ranges of the seed and the points of a made instance
+pub record IsMaking (seed points : ℕ) : Type 0 where
+  pub seed_most : seed ≤ 2147483647
+  pub points_range : (1 ≤ points) × (points ≤ 4096)
+
+-- the numbers of a command are in their ranges
+abbrev pub IsCommand : Command → Type 0
+IsCommand (Solve s) = IsSettings s
+IsCommand Check = ⊤
+IsCommand (Make seed points) = IsMaking seed points
+IsCommand (Trial seed points s) = IsMaking seed points × IsSettings s
+
+-- whether the command wants a team of two workers or more
+abbrev pub has_team : Option Command → Bool
+has_team (Some (Solve s)) = nat_le 2 s.workers
+has_team _ = false

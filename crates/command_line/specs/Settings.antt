@@ -1,0 +1,82 @@
+-- What the words after the command say: each gives a value to a name, written with its `=`.
+use Rattle.std.specs.Prelude.{ℕ, ◌^◌, nat_le, nat_eq, Bool, if◌then◌else◌, ◌&&◌, pos, List, [], ◌∷◌, length, drop, filter_map, codes, Option, Some, None, option_map, option_and_then, unwrap_or}
+use Rattle.std.specs.List.{list_all, list_any, starts_with}
+use Rattle.text_lines.specs.Numbers.{digits_of}
+use Rattle.siting_definitions.specs.declared.GapRule.{GapRule}
+use Rattle.siting_definitions.specs.declared.GapRule.TheVariants.{Fixed, Ppm}
+use Rattle.command_line.specs.declared.command.Settings.{Settings}
+
+-- the value that a word gives to a name
+abbrev pub value_in : List ℕ → List ℕ → Option (List ℕ)
+value_in name word = if starts_with nat_eq word name then Some (drop (length name) word) else None
+
+-- whether a word gives a value to one of the names
+abbrev pub names_one : List (List ℕ) → List ℕ → Bool
+names_one names word = list_any (starts_with nat_eq word) names
+
+-- whether each word does
+abbrev pub has_only : List (List ℕ) → List (List ℕ) → Bool
+has_only names words = list_all (names_one names) words
+
+-- n, where it lies from low to high
+abbrev pub number_within : ℕ → ℕ → ℕ → Option ℕ
+number_within low high n = if nat_le low n && nat_le n high then Some n else None
+
+-- what the values of a name say: nothing where there is none, and one number in its range
+abbrev pub setting_of : ℕ → ℕ → List (List ℕ) → Option (Option ℕ)
+setting_of low high [] = Some None
+setting_of low high (value ∷ []) =
+    option_map Some (option_and_then (number_within low high) (digits_of value))
+setting_of low high (value ∷ again ∷ values) = None
+
+-- what the words say of a name: it may stand once, with digits whose number is in its range
+abbrev pub setting : List ℕ → ℕ → ℕ → List (List ℕ) → Option (Option ℕ)
+setting name low high words = setting_of low high (filter_map (value_in name) words)
+
+-- the number of a setting that must be there
+abbrev pub required_number : Option (Option ℕ) → Option ℕ
+required_number s = option_and_then (λ n. n) s
+
+-- the number of a setting, or the default where it isn't there
+abbrev pub number_or : ℕ → Option (Option ℕ) → Option ℕ
+number_or default s = option_map (λ n. unwrap_or n default) s
+
+-- The rule for the gap: a gap or a ratio in millionths, and not both. It is 1000 millionths where
+-- neither is there.
+abbrev pub gap_rule_of : Option ℕ → Option ℕ → Option GapRule
+gap_rule_of (Some gap) (Some ppm) = None
+gap_rule_of (Some gap) None = Some (Fixed (pos gap))
+gap_rule_of None (Some ppm) = Some (Ppm ppm)
+gap_rule_of None None = Some (Ppm 1000)
+
+abbrev pub gap_rule : List (List ℕ) → Option GapRule
+gap_rule words =
+    option_and_then (λ gap. option_and_then (gap_rule_of gap)
+    (setting (codes "ppm=") 0 1000000 words))
+    (setting (codes "gap=") 0 (2 ^ 62) words)
+
+abbrev pub budget_of : List (List ℕ) → Option ℕ
+budget_of words = number_or 100000 (setting (codes "budget=") 0 1000000 words)
+
+abbrev pub pool_of : List (List ℕ) → Option ℕ
+pool_of words = number_or 100000 (setting (codes "pool=") 1 1000000 words)
+
+abbrev pub workers_of : List (List ℕ) → Option ℕ
+workers_of words = number_or 1 (setting (codes "workers=") 1 64 words)
+
+abbrev pub seed_of : List (List ℕ) → Option ℕ
+seed_of words = required_number (setting (codes "seed=") 0 2147483647 words)
+
+abbrev pub points_of : List (List ℕ) → Option ℕ
+points_of words = required_number (setting (codes "points=") 1 4096 words)
+
+abbrev pub settings_with : GapRule → ℕ → ℕ → ℕ → Settings
+settings_with gap budget pool workers =
+    record { gap = gap; budget = budget; pool = pool; workers = workers }
+
+-- how an instance is solved
+unfoldable pub settings_of : List (List ℕ) → Option Settings
+settings_of words =
+    option_and_then (λ gap. option_and_then (λ budget. option_and_then (λ pool.
+    option_map (settings_with gap budget pool)
+    (workers_of words)) (pool_of words)) (budget_of words)) (gap_rule words)

@@ -1,0 +1,46 @@
+-- The command that the words are.
+use Rattle.std.specs.Prelude.{ℕ, if◌then◌else◌, List, [], ◌∷◌, bytes_eq, codes, Option, Some, None, option_map, option_and_then}
+use Rattle.command_line.specs.declared.command.Command.{Command}
+use Rattle.command_line.specs.declared.command.Command.TheVariants.{Solve, Check, Make, Trial}
+use Rattle.command_line.specs.Settings.{has_only, settings_of, seed_of, points_of}
+
+-- the command, where the words after its name give values to these names alone
+abbrev pub command_with : List (List ℕ) → List (List ℕ) → Option Command → Option Command
+command_with names words command = if has_only names words then command else None
+
+unfoldable pub solve_of : List (List ℕ) → Option Command
+solve_of words =
+    command_with
+    (codes "gap=" ∷ codes "ppm=" ∷ codes "budget=" ∷ codes "pool=" ∷ codes "workers=" ∷ [])
+    words
+    (option_map Solve (settings_of words))
+
+unfoldable pub check_of : List (List ℕ) → Option Command
+check_of words = command_with [] words (Some Check)
+
+unfoldable pub make_of : List (List ℕ) → Option Command
+make_of words =
+    command_with
+    (codes "seed=" ∷ codes "points=" ∷ [])
+    words
+    (option_and_then (λ seed. option_map (Make seed) (points_of words)) (seed_of words))
+
+unfoldable pub trial_of : List (List ℕ) → Option Command
+trial_of words =
+    command_with
+    (codes "seed=" ∷ codes "points="
+    ∷ codes "gap=" ∷ codes "ppm=" ∷ codes "budget=" ∷ codes "pool=" ∷ [])
+    words
+    (option_and_then (λ seed. option_and_then (λ points.
+    option_map (Trial seed points)
+    (settings_of words)) (points_of words)) (seed_of words))
+
+-- the command that the words are, or none; the order of the words after the first doesn't count
+unfoldable pub command_of : List (List ℕ) → Option Command
+command_of [] = None
+command_of (name ∷ words) =
+    if bytes_eq name (codes "solve") then solve_of words
+    else if bytes_eq name (codes "check") then check_of words
+    else if bytes_eq name (codes "make") then make_of words
+    else if bytes_eq name (codes "trial") then trial_of words
+    else None

@@ -1,0 +1,473 @@
+-- What is still to come after a front of a line, and what calls know that read a line piece by piece.
+use Rattle.std.proofs.Common.{◌≡◌, ℕ, suc, zero, ◌+◌, ◌-◌, ◌≤◌, ◌<◌, eqb, Bool, true, false, cond, not, List, [], ◌∷◌, ◌++◌, length, take, drop, refl, sym, ap, subst, ◌∙◌, ◌⊎◌, inl, inr, arith, append_assoc, append-nil, Option, Some, None, IfSome, Result, Ok, Err}
+use Rattle.std.specs.Prelude.{◌==◌, ◌||◌, nat_lt, IsErrOf, IfOk, OnOk, OnErr, ⊤}
+use Rattle.std.specs.Result.{IsErrAnd}
+use Rattle.std.specs.List.{list_all}
+use Rattle.std.specs.Io.KnownBytes.{Consumes, Keeps}
+use Rattle.std.proofs.lemmas.Bool.{and_parts}
+use Rattle.std.proofs.lemmas.List.{length-take, length-append, take-append-drop}
+use Rattle.port_io.specs.Faults.{Rose, HasCause}
+use Rattle.port_io.specs.declared.ports.Failed.{Failed}
+use Rattle.port_io.proofs.SourceLemmas.{Consumes-then}
+use Rattle.line_stream.specs.declared.lines.LineError.{LineError}
+use Rattle.line_stream.specs.declared.lines.LineError.TheVariants.{Missing, Surplus, TooLong, Failed as SourceFailed}
+use Rattle.line_stream.specs.Feeds.{is_no_feed}
+use Rattle.line_stream.specs.Input.{Input, input_of, input_from, onto_lines, with_more}
+use Rattle.line_stream.specs.Coming.{Coming, next_line, input_end}
+use Rattle.line_stream.specs.Stream.{LinesState, Stream, coming_in, Settles, IsNeeded, IsLastPiece, HasEnded}
+use Rattle.line_stream.specs.LineReading.{Blames, StopsAs, after_front, Filled, FrontRead, InLine, IsLine, IsStopped, PieceRead, RestRead, IsKept, LineRead, surplus_of, IsEnd, EndRead}
+
+-- ---- a front of a line
+pub after_front-nil : (x : Result (List ℕ × Coming) LineError) → after_front [] x ≡ x
+after_front-nil (Ok read) = refl
+after_front-nil (Err error) = refl
+
+pub after_front-append : (a b : List ℕ) (x : Result (List ℕ × Coming) LineError) → after_front a (after_front b x) ≡ after_front (a ++ b) x
+after_front-append a b (Ok read) = ap (λ l. Ok (l, read.1)) (sym (append_assoc a b read.0))
+after_front-append a b (Err error) = refl
+
+-- the next line of an input of which this many bytes may be read
+abbrev line_in : Bool → ℕ → List ℕ → ℕ → Result (List ℕ × Coming) LineError
+line_in more limit bytes n = next_line (record { input = with_more more (input_of limit bytes); line = n })
+
+onto_next : (b : ℕ) (lines : List (List ℕ)) (partial : List ℕ) (goes_on : Bool) (n : ℕ)
+    → (let i : Input = record { lines = lines; partial = partial; goes_on = goes_on } in
+    next_line (record { input = onto_lines b lines i; line = n }) ≡ after_front (b ∷ []) (next_line (record { input = i; line = n })))
+onto_next b [] partial true n = refl
+onto_next b [] partial false n = refl
+onto_next b (l ∷ ls) partial goes_on n = refl
+
+from_next : (b : ℕ) (i : Input) (n : ℕ) → is_no_feed b ≡ true → next_line (record { input = input_from b i; line = n }) ≡ after_front (b ∷ []) (next_line (record { input = i; line = n }))
+from_next b i n h = by_test (eqb b 10) h
+  where
+    by_test : (t : Bool) → not t ≡ true → next_line (record { input = cond t (record i { lines = [] ∷ i.lines }) (onto_lines b i.lines i); line = n }) ≡ after_front (b ∷ []) (next_line (record { input = i; line = n }))
+    by_test true h = cc
+    by_test false h = onto_next b i.lines i.partial i.goes_on n
+
+onto_more : (more : Bool) (b : ℕ) (lines : List (List ℕ)) (i : Input) → with_more more (onto_lines b lines i) ≡ onto_lines b lines (with_more more i)
+onto_more more b [] i = refl
+onto_more more b (line ∷ lines) i = refl
+
+from_more : (more : Bool) (b : ℕ) (i : Input) → with_more more (input_from b i) ≡ input_from b (with_more more i)
+from_more more b i = by_test (eqb b 10)
+  where
+    by_test : (t : Bool) → with_more more (cond t (record i { lines = [] ∷ i.lines }) (onto_lines b i.lines i)) ≡ cond t (record (with_more more i) { lines = [] ∷ i.lines }) (onto_lines b i.lines (with_more more i))
+    by_test true = refl
+    by_test false = onto_more more b i.lines i
+
+input_front : (more : Bool) (front rest : List ℕ) (limit n : ℕ) → list_all is_no_feed front ≡ true → length front ≤ limit
+    → line_in more limit (front ++ rest) n ≡ after_front front (line_in more (limit - length front) rest n)
+unfolding input_of
+input_front more [] rest limit n h le =
+    let same : limit - 0 ≡ limit = omega arith in
+    rw same (sym (after_front-nil (line_in more limit rest n)))
+input_front more (b ∷ bs) rest zero n h le = let no : ⊥ = omega arith in absurd no
+input_front more (b ∷ bs) rest (suc limit) n h le =
+    let same : suc limit - suc (length bs) ≡ limit - length bs = omega arith in
+    let parts = and_parts _ _ h in
+    ap (λ (i : Input). next_line (record { input = i; line = n })) (from_more more b (input_of limit (bs ++ rest)))
+    ∙ (from_next b (with_more more (input_of limit (bs ++ rest))) n parts.0
+    ∙ (ap (after_front (b ∷ [])) (input_front more bs rest limit n parts.1 (omega arith))
+    ∙ (after_front-append (b ∷ []) bs (line_in more (limit - length bs) rest n)
+    ∙ ap (λ k. after_front (b ∷ bs) (line_in more k rest n)) (sym same))))
+
+input_feed : (more : Bool) (rest : List ℕ) (limit n : ℕ) → 0 < limit
+    → line_in more limit (10 ∷ rest) n ≡ Ok ([], record { input = with_more more (input_of (limit - 1) rest); line = n + 1 })
+unfolding input_of
+input_feed more rest zero n lt = let no : ⊥ = omega arith in absurd no
+input_feed more rest (suc limit) n lt =
+    let same : limit ≡ suc limit - 1 = omega arith in
+    ap (λ k. Ok ([], record { input = with_more more (input_of k rest); line = n + 1 })) same
+
+front_goes : (more : Bool) (limit read line : ℕ) (ahead front now rest : List ℕ) → list_all is_no_feed front ≡ true → read + length front ≤ limit → ahead ≡ front ++ now
+    → line_in more (limit - read) (ahead ++ rest) line ≡ after_front front (line_in more (limit - (read + length front)) (now ++ rest) line)
+front_goes more limit read line ahead front now rest h le is =
+    let same : limit - read - length front ≡ limit - (read + length front) = omega arith in
+    rw (is, append_assoc front now rest, ← same) (input_front more front (now ++ rest) (limit - read) line h (omega arith))
+
+feed_comes : (more : Bool) (limit read line : ℕ) (ahead front now rest : List ℕ) → list_all is_no_feed front ≡ true → read + (length front + 1) ≤ limit → ahead ≡ front ++ 10 ∷ now
+    → line_in more (limit - read) (ahead ++ rest) line ≡ Ok (front, record { input = with_more more (input_of (limit - (read + (length front + 1))) (now ++ rest)); line = line + 1 })
+feed_comes more limit read line ahead front now rest h le is =
+    let same : limit - (read + length front) - 1 ≡ limit - (read + (length front + 1)) = omega arith in
+    front_goes more limit read line ahead front (10 ∷ now) rest h (omega arith) is
+    ∙ (ap (after_front front) (input_feed more (now ++ rest) (limit - (read + length front)) line (omega arith)
+    ∙ ap (λ k. Ok ([], record { input = with_more more (input_of k (now ++ rest)); line = line + 1 })) same)
+    ∙ ap (λ l. Ok (l, record { input = with_more more (input_of (limit - (read + (length front + 1))) (now ++ rest)); line = line + 1 })) (append-nil front))
+
+-- a front of what is held was kept
+pub front_read : (limit n : ℕ) (before after : LinesState) (feed : Bool)
+    → after.kept ≡ before.kept ++ take n before.ahead → list_all is_no_feed (take n before.ahead) ≡ true
+    → drop n before.ahead ≡ cond feed (10 ∷ after.ahead) after.ahead
+    → n + cond feed 1 0 ≤ limit - before.read → before.read ≤ limit → n ≤ length before.ahead
+    → (feed ≡ false → 0 < length before.ahead → 0 < limit - before.read → length before.kept < 4096 → 0 < n) → length after.kept ≤ 4096
+    → after.read ≡ before.read + (n + cond feed 1 0) → after.line ≡ before.line + cond feed 1 0
+    → FrontRead limit before after feed
+front_read limit n before after feed keeps clean rest most first within some few read line =
+    record {
+      front = take n before.ahead;
+      keeps = keeps;
+      reads = λ more bytes. by_test more bytes feed rest most read line;
+      some = λ e f g h. rw long (some e f (omega arith) h);
+      few = few;
+      count = rw long (sym read);
+      within = rw read (omega arith);
+    }
+  where
+    long : length (take n before.ahead) ≡ n
+    long = let e = length-take n before.ahead in omega arith
+
+    by_test : (more : Bool) (bytes : List ℕ) (feed : Bool) → drop n before.ahead ≡ cond feed (10 ∷ after.ahead) after.ahead → n + cond feed 1 0 ≤ limit - before.read
+        → after.read ≡ before.read + (n + cond feed 1 0) → after.line ≡ before.line + cond feed 1 0
+        → next_line (coming_in more limit before bytes)
+        ≡ cond feed (Ok (take n before.ahead, coming_in more limit after bytes)) (after_front (take n before.ahead) (next_line (coming_in more limit after bytes)))
+    by_test more bytes true rest most read line =
+        let e = long in
+        let is : before.ahead ≡ take n before.ahead ++ 10 ∷ after.ahead = sym (take-append-drop n before.ahead) ∙ ap (λ xs. take n before.ahead ++ xs) rest in
+        let at : before.read + (length (take n before.ahead) + 1) ≡ after.read = omega arith in
+        feed_comes more limit before.read before.line before.ahead (take n before.ahead) after.ahead bytes clean (omega arith) is
+        ∙ (ap (λ k. Ok (take n before.ahead, record { input = with_more more (input_of (limit - k) (after.ahead ++ bytes)); line = before.line + 1 })) at
+        ∙ ap (λ k. Ok (take n before.ahead, record { input = with_more more (input_of (limit - after.read) (after.ahead ++ bytes)); line = k })) (sym line))
+    by_test more bytes false rest most read line =
+        let e = long in
+        let is : before.ahead ≡ take n before.ahead ++ after.ahead = sym (take-append-drop n before.ahead) ∙ ap (λ xs. take n before.ahead ++ xs) rest in
+        let at : before.read + length (take n before.ahead) ≡ after.read = omega arith in
+        let same : before.line ≡ after.line = omega arith in
+        front_goes more limit before.read before.line before.ahead (take n before.ahead) after.ahead bytes clean (omega arith) is
+        ∙ (ap (λ k. after_front (take n before.ahead) (line_in more (limit - k) (after.ahead ++ bytes) before.line)) at
+        ∙ ap (λ k. after_front (take n before.ahead) (line_in more (limit - after.read) (after.ahead ++ bytes) k)) same)
+
+-- ---- what a source gave
+pub Consumes-none : (left : Option (List ℕ)) → Consumes left left []
+Consumes-none None = tt
+Consumes-none (Some bytes) = refl
+
+-- a source that ends after more was read of it ends
+pub ended-then : (a b c : Option (List ℕ)) (got : List ℕ) → Consumes a b got → HasEnded b c → HasEnded a c
+ended-then None b c got gave ends = tt
+ended-then (Some a) None c got gave ends = absurd gave
+ended-then (Some a) (Some b) c got gave ends = ends
+
+pub rose-then : (a b c : ℕ) → a ≤ b → Rose b c → Rose a c
+rose-then a b c le rose other = let lt : b < c = rose other in omega arith
+
+blames-then : {T U : Type 0} (a b c : ℕ) (error : LineError) → a ≤ b → Blames {T = T} b c (Err error) → Blames {T = U} a c (Err error)
+blames-then a b c error le blames = record {
+  later = omega (arith, blames.later);
+  failed = λ is. rose-then a b c le (blames.failed (ap Err (let same : error ≡ SourceFailed = cc in same)));
+}
+
+-- no more was read, or a piece after what was read
+pub needed-kept : {T E : Type 0} (limit : ℕ) (wanted : Coming → Result T E) (error : E) (s : LinesState) (got more : List ℕ) → more ≡ [] → IsNeeded limit wanted error s got → IsNeeded limit wanted error s (got ++ more)
+needed-kept limit wanted error s got more none needed =
+    subst (IsNeeded limit wanted error s) (sym (ap (λ m. got ++ m) none ∙ append-nil got)) needed
+
+pub needed-last : {T E : Type 0} (limit : ℕ) (wanted : Coming → Result T E) (error : E) (s : LinesState) (got front piece more : List ℕ) → more ≡ front ++ piece → length piece ≤ 4096
+    → wanted (coming_in true limit s (got ++ front)) ≡ Err error → IsNeeded limit wanted error s (got ++ more)
+needed-last limit wanted error s got front piece more parts few undecided =
+    inr (record { front = got ++ front; piece = piece; parts = ap (λ m. got ++ m) parts ∙ sym (append_assoc got front piece); few = few; undecided = undecided })
+
+-- ---- a line that is read piece by piece
+module _ (limit : ℕ) where
+  nothing_read : (a b : Stream) → b.lines ≡ record a.lines { kept = [] } → b.left ≡ a.left → b.faults ≡ a.faults → InLine limit a b []
+  nothing_read a b lines left faults = record {
+    got = [];
+    consumes = rw left (Consumes-none a.left);
+    needed = inl refl;
+    reads = λ more rest. sym (after_front-nil (next_line (coming_in more limit a.lines rest))) ∙ ap (λ (s : LinesState). after_front [] (next_line (coming_in more limit s rest))) (sym lines);
+    later = rw faults (omega arith);
+  }
+
+  pub in_line-start : (a b : Stream) → b.lines ≡ record a.lines { kept = [] } → b.left ≡ a.left → b.faults ≡ a.faults → InLine limit a b b.lines.kept
+  in_line-start a b lines left faults = subst (InLine limit a b) (sym (ap (λ (s : LinesState). s.kept) lines)) (nothing_read a b lines left faults)
+
+  -- what a piece leaves open, what was wanted before it leaves open
+  in_line-open : (a b : Stream) (x got : List ℕ) (h : InLine limit a b x) → IsNeeded limit next_line TooLong b.lines got → IsNeeded limit next_line TooLong a.lines (h.got ++ got)
+  in_line-open a b x got h (inl none) = needed-kept limit next_line TooLong a.lines h.got got none h.needed
+  in_line-open a b x got h (inr last) =
+      needed-last limit next_line TooLong a.lines h.got last.front last.piece got last.parts last.few (h.reads true last.front ∙ ap (after_front x) last.undecided)
+
+  pub in_line-then : (a b c : Stream) (x y : List ℕ) → InLine limit a b x → InLine limit b c y → InLine limit a c (x ++ y)
+  in_line-then a b c x y h k = record {
+    got = h.got ++ k.got;
+    consumes = Consumes-then a.left b.left c.left h.got k.got h.consumes k.consumes;
+    needed = in_line-open a b x k.got h k.needed;
+    reads = λ more rest. ap (λ l. next_line (coming_in more limit a.lines l)) (append_assoc h.got k.got rest)
+        ∙ (h.reads more (k.got ++ rest) ∙ (ap (after_front x) (k.reads more rest) ∙ after_front-append x y (next_line (coming_in more limit c.lines rest))));
+    later = omega (arith, h.later, k.later);
+  }
+
+  pub in_line-ends : (a b c : Stream) (x y : List ℕ) → InLine limit a b x → IsLine limit b c y → IsLine limit a c (x ++ y)
+  in_line-ends a b c x y h k = record {
+    got = h.got ++ k.got;
+    consumes = Consumes-then a.left b.left c.left h.got k.got h.consumes k.consumes;
+    needed = in_line-open a b x k.got h k.needed;
+    reads = λ more rest. ap (λ l. next_line (coming_in more limit a.lines l)) (append_assoc h.got k.got rest)
+        ∙ (h.reads more (k.got ++ rest) ∙ ap (after_front x) (k.reads more rest));
+    later = omega (arith, h.later, k.later);
+  }
+
+  in_line-settles : (a b : Stream) (x got : List ℕ) (error : LineError) (h : InLine limit a b x) → Settles limit next_line b.lines got (Err error) → Settles limit next_line a.lines (h.got ++ got) (Err error)
+  in_line-settles a b x got error h settles more rest =
+      ap (λ l. next_line (coming_in more limit a.lines l)) (append_assoc h.got got rest) ∙ (h.reads more (got ++ rest) ∙ ap (after_front x) (settles more rest))
+
+  in_line-stops : (a b c : Stream) (x got : List ℕ) (error : LineError) (h : InLine limit a b x) → StopsAs limit next_line b c got error → StopsAs limit next_line a c (h.got ++ got) error
+  in_line-stops a b c x got (Missing line) h stops =
+      (h.reads false got ∙ ap (after_front x) stops.0, ended-then a.left b.left c.left h.got h.consumes stops.1)
+  in_line-stops a b c x got (Surplus line) h stops = in_line-settles a b x got (Surplus line) h stops
+  in_line-stops a b c x got TooLong h stops = in_line-settles a b x got TooLong h stops
+  in_line-stops a b c x got SourceFailed h stops = h.reads true got ∙ ap (after_front x) stops
+
+  pub in_line-fails : (a b c : Stream) (x : List ℕ) (error : LineError) → InLine limit a b x → IsStopped limit next_line b c error → IsStopped limit next_line a c error
+  in_line-fails a b c x error h k = record {
+    got = h.got ++ k.got;
+    consumes = Consumes-then a.left b.left c.left h.got k.got h.consumes k.consumes;
+    needed = in_line-open a b x k.got h k.needed;
+    stops = in_line-stops a b c x k.got error h k.stops;
+    blames = blames-then a.faults b.faults c.faults error h.later k.blames;
+  }
+
+  -- ---- what was read ahead
+  pub filled_held : (a : Stream) → 0 < length a.lines.ahead → Filled a a (Ok true)
+  filled_held a some = record {
+    got = [];
+    consumes = Consumes-none a.left;
+    lines = ap (λ l. record a.lines { ahead = l }) (sym (append-nil a.lines.ahead));
+    few = inl refl;
+    fills = some;
+    cause = record { later = omega arith; failed = tt };
+  }
+
+  no_bytes : (bytes : List ℕ) → false ≡ nat_lt 0 (length bytes) → bytes ≡ []
+  no_bytes [] e = refl
+  no_bytes (b ∷ bytes) e = let no : ⊥ = grind arith in absurd no
+
+  ends : (a b : Option (List ℕ)) (now : List ℕ) → now ≡ [] → Consumes a b now → IfSome a (λ left. left ≡ []) → HasEnded a b
+  ends None b now none gave end = tt
+  ends (Some a) None now none gave end = absurd gave
+  ends (Some a) (Some b) now none gave end = ap Some (sym (rw none at gave) ∙ end)
+
+  consumes_kept : (a b : Option (List ℕ)) → Keeps a b → Consumes a b []
+  consumes_kept None b keeps = tt
+  consumes_kept (Some a) None keeps = absurd keeps
+  consumes_kept (Some a) (Some b) keeps = sym keeps
+
+  pub filled_now : (a b : Stream) (now : List ℕ) (result : Result Bool Failed) → a.lines.ahead ≡ [] → b.lines ≡ record a.lines { ahead = now }
+      → OnOk result (Consumes a.left b.left now) → IfOk result (λ some. some ≡ nat_lt 0 (length now)) → IfOk result (λ some. some ≡ false → IfSome a.left (λ left. left ≡ []))
+      → length now ≤ 4096 → OnErr result (Keeps a.left b.left) → OnErr result (now ≡ []) → HasCause a.faults b.faults result → Filled a b result
+  filled_now a b now (Ok true) empty lines gave some end few keeps none cause = record {
+    got = now;
+    consumes = gave;
+    lines = lines ∙ ap (λ l. record a.lines { ahead = l ++ now }) (sym empty);
+    few = inr (empty, few);
+    fills = rw lines (let is : true ≡ nat_lt 0 (length now) = some in grind arith);
+    cause = cause;
+  }
+  filled_now a b now (Ok false) empty lines gave some end few keeps none cause = record {
+    got = now;
+    consumes = gave;
+    lines = lines ∙ ap (λ l. record a.lines { ahead = l ++ now }) (sym empty);
+    few = inl (no_bytes now some);
+    fills = (empty, no_bytes now some, ends a.left b.left now (no_bytes now some) gave (end refl));
+    cause = cause;
+  }
+  filled_now a b now (Err failed) empty lines gave some end few keeps none cause = record {
+    got = [];
+    consumes = consumes_kept a.left b.left keeps;
+    lines = lines ∙ ap (λ l. record a.lines { ahead = l }) (none ∙ sym (append-nil []) ∙ ap (λ l. l ++ []) (sym empty));
+    few = inl refl;
+    fills = (empty, refl);
+    cause = cause;
+  }
+
+  coming_filled : (b c : Stream) (result : Result Bool Failed) (f : Filled b c result) (more : Bool) (rest : List ℕ) → coming_in more limit b.lines (f.got ++ rest) ≡ coming_in more limit c.lines rest
+  coming_filled b c result f more rest =
+      ap (λ l. record { input = with_more more (input_of (limit - b.lines.read) l); line = b.lines.line }) (sym (append_assoc b.lines.ahead f.got rest))
+      ∙ ap (λ (s : LinesState). coming_in more limit s rest) (sym f.lines)
+
+  -- where nothing is held, what comes is open
+  open_line : (more : Bool) (s : LinesState) (bytes : List ℕ) → s.ahead ≡ [] → bytes ≡ [] → next_line (coming_in more limit s bytes) ≡ Err (cond more TooLong (Missing (s.line + 1)))
+  unfolding input_of
+  open_line true s bytes none is = rw (none, is) refl
+  open_line false s bytes none is = rw (none, is) refl
+
+  open_end : (more : Bool) (s : LinesState) (bytes : List ℕ) → s.ahead ≡ [] → bytes ≡ [] → input_end (coming_in more limit s bytes) ≡ cond more (Err TooLong) (Ok tt)
+  unfolding input_of
+  open_end true s bytes none is = rw (none, is) refl
+  open_end false s bytes none is = rw (none, is) refl
+
+  filled_line : (b c : Stream) (result : Result Bool Failed) (f : Filled b c result) → IsNeeded limit next_line TooLong b.lines f.got
+  filled_line b c result f = by_few f.few
+    where
+      by_few : (f.got ≡ []) ⊎ ((b.lines.ahead ≡ []) × (length f.got ≤ 4096)) → IsNeeded limit next_line TooLong b.lines f.got
+      by_few (inl none) = inl none
+      by_few (inr few) = inr (record { front = []; piece = f.got; parts = refl; few = few.1; undecided = open_line true b.lines [] few.0 refl })
+
+  filled_end : (b c : Stream) (result : Result Bool Failed) (f : Filled b c result) → IsNeeded limit input_end TooLong b.lines f.got
+  filled_end b c result f = by_few f.few
+    where
+      by_few : (f.got ≡ []) ⊎ ((b.lines.ahead ≡ []) × (length f.got ≤ 4096)) → IsNeeded limit input_end TooLong b.lines f.got
+      by_few (inl none) = inl none
+      by_few (inr few) = inr (record { front = []; piece = f.got; parts = refl; few = few.1; undecided = open_end true b.lines [] few.0 refl })
+
+  -- some bytes are held now
+  pub in_line-filled : (a b c : Stream) (x : List ℕ) (result : Result Bool Failed) → InLine limit a b x → Filled b c result → InLine limit a c x
+  in_line-filled a b c x result h f = record {
+    got = h.got ++ f.got;
+    consumes = Consumes-then a.left b.left c.left h.got f.got h.consumes f.consumes;
+    needed = in_line-open a b x f.got h (filled_line b c result f);
+    reads = λ more rest. ap (λ l. next_line (coming_in more limit a.lines l)) (append_assoc h.got f.got rest)
+        ∙ (h.reads more (f.got ++ rest) ∙ ap (λ (r : Coming). after_front x (next_line r)) (coming_filled b c result f more rest));
+    later = omega (arith, h.later, f.cause.later);
+  }
+
+  other_blame : {T : Type 0} (before after : ℕ) (error : LineError) → before ≤ after → (error ≡ SourceFailed → ⊥) → Blames {T = T} before after (Err error)
+  other_blame before after error le other = record { later = le; failed = λ is. absurd (other (let same : error ≡ SourceFailed = cc in same)) }
+
+  -- the input ends within the line
+  pub in_line-missing : (a b c : Stream) (x : List ℕ) (line : ℕ) → InLine limit a b x → Filled b c (Ok false) → line ≡ c.lines.line + 1 → IsStopped limit next_line a c (Missing line)
+  in_line-missing a b c x line h f is =
+      let same : line ≡ b.lines.line + 1 = is ∙ ap (λ (s : LinesState). s.line + 1) f.lines in
+      in_line-fails a b c x (Missing line) h (record {
+        got = f.got;
+        consumes = f.consumes;
+        needed = filled_line b c (Ok false) f;
+        stops = (open_line false b.lines f.got f.fills.0 f.fills.1 ∙ ap (λ n. Err (Missing n)) (sym same), f.fills.2);
+        blames = other_blame b.faults c.faults (Missing line) f.cause.later (λ e. cc);
+      })
+
+  -- the source failed within the line
+  pub in_line-failed : (a b c : Stream) (x : List ℕ) (failed : Failed) → InLine limit a b x → Filled b c (Err failed) → IsStopped limit next_line a c SourceFailed
+  in_line-failed a b c x failed h f =
+      in_line-fails a b c x SourceFailed h (record {
+        got = f.got;
+        consumes = f.consumes;
+        needed = filled_line b c (Err failed) f;
+        stops = open_line true b.lines f.got f.fills.0 f.fills.1;
+        blames = record { later = f.cause.later; failed = λ _. f.cause.failed };
+      })
+
+  more_true : (more : Bool) → (more || true) ≡ true
+  more_true true = refl
+  more_true false = refl
+
+  over_limit : (more : Bool) (left line b : ℕ) (bytes : List ℕ) → left ≡ 0 → line_in more left (b ∷ bytes) line ≡ Err TooLong
+  unfolding input_of
+  over_limit more left line b bytes e = rw (e, more_true more) refl
+
+  past_limit : (s : LinesState) → 0 < length s.ahead → limit - s.read ≡ 0 → Settles limit next_line s [] (Err TooLong)
+  past_limit s some none more rest = by_ahead s.ahead some
+    where
+      by_ahead : (ahead : List ℕ) → 0 < length ahead → line_in more (limit - s.read) (ahead ++ rest) s.line ≡ Err TooLong
+      by_ahead [] some = let no : ⊥ = omega arith in absurd no
+      by_ahead (b ∷ ahead) some = over_limit more (limit - s.read) s.line b (ahead ++ rest) none
+
+  -- a byte comes that is past the limit
+  pub in_line-over : (a b : Stream) (x : List ℕ) → InLine limit a b x → 0 < length b.lines.ahead → limit - b.lines.read ≡ 0 → IsStopped limit next_line a b TooLong
+  in_line-over a b x h some none =
+      in_line-fails a b b x TooLong h (record {
+        got = [];
+        consumes = Consumes-none b.left;
+        needed = inl refl;
+        stops = past_limit b.lines some none;
+        blames = other_blame b.faults b.faults TooLong (omega arith) (λ e. cc);
+      })
+
+  -- a front of the line was kept, of what is held
+  pub in_line-front : (a b : Stream) (after : LinesState) → InLine limit a b b.lines.kept → FrontRead limit b.lines after false → InLine limit a (record b { lines = after }) after.kept
+  in_line-front a b after h f =
+      subst (InLine limit a (record b { lines = after })) (sym f.keeps)
+      (in_line-then a b (record b { lines = after }) b.lines.kept f.front h (record { got = []; consumes = Consumes-none b.left; needed = inl refl; reads = f.reads; later = omega arith }))
+
+  pub in_line-feed : (a b : Stream) (after : LinesState) → InLine limit a b b.lines.kept → FrontRead limit b.lines after true → IsLine limit a (record b { lines = after }) after.kept
+  in_line-feed a b after h f =
+      subst (IsLine limit a (record b { lines = after })) (sym f.keeps)
+      (in_line-ends a b (record b { lines = after }) b.lines.kept f.front h (record { got = []; consumes = Consumes-none b.left; needed = inl refl; reads = f.reads; later = omega arith }))
+
+  -- what is kept stays where nothing but bytes ahead are read
+  pub in_line-held : (a b c : Stream) (result : Result Bool Failed) → InLine limit a b b.lines.kept → Filled b c result → InLine limit a c c.lines.kept
+  in_line-held a b c result h f =
+      let same : c.lines.kept ≡ b.lines.kept = ap (λ (s : LinesState). s.kept) f.lines in
+      subst (InLine limit a c) (sym same) (in_line-filled a b c b.lines.kept result h f)
+
+  -- ---- the rest of a line
+  pub rest_fails : (a b c : Stream) (front : List ℕ) (error : LineError) (result : Result ⊤ LineError) → InLine limit a b front → PieceRead limit b c (Err error) → IsErrAnd result (λ e. e ≡ error) → RestRead limit a c result
+  rest_fails a b c front error (Ok done) h piece is = absurd is
+  rest_fails a b c front error (Err e) h piece is = rw is (in_line-fails a b c front error h piece)
+
+  line_forgets : (a c : Stream) (line : List ℕ) → IsLine limit a c line → IsLine limit a (record c { lines = record c.lines { kept = [] } }) line
+  line_forgets a c line h = record { got = h.got; consumes = h.consumes; needed = h.needed; reads = h.reads; later = h.later }
+
+  pub rest_ends : (a b c : Stream) (now : LinesState) (front : List ℕ) → InLine limit a b front → PieceRead limit b c (Ok true) → now ≡ record c.lines { kept = [] }
+      → (line : List ℕ) × IsLine limit a (record c { lines = now }) line × (now.kept ≡ [])
+  rest_ends a b c now front h piece is =
+      (front ++ c.lines.kept, subst (λ (s : LinesState). IsLine limit a (record c { lines = s }) (front ++ c.lines.kept)) (sym is) (line_forgets a c _ (in_line-ends a b c front c.lines.kept h piece)), ap (λ (s : LinesState). s.kept) is)
+
+  -- ---- a line
+  pub short_line : (a b : Stream) → PieceRead limit a b (Ok true) → LineRead limit a b (Ok tt)
+  short_line a b piece = (b.lines.kept, piece, inl refl)
+
+  pub long_line : (a b c : Stream) (result : Result ⊤ LineError) → PieceRead limit a b (Ok false) → length b.lines.kept ≡ 4096 → RestRead limit b c result → LineRead limit a c result
+  long_line a b c (Ok done) piece long rest =
+      let all = length-append b.lines.kept rest.0 in
+      (b.lines.kept ++ rest.0, in_line-ends a b c b.lines.kept rest.0 piece rest.1, inr (rest.2, omega arith))
+  long_line a b c (Err error) piece long rest = in_line-fails a b c b.lines.kept error piece rest
+
+  -- ---- the end of the input
+  pub end_read : (a b : Stream) → Filled a b (Ok false) → IsEnd limit a b
+  end_read a b f = record {
+    ends = open_end false a.lines [] f.fills.0 refl;
+    consumes = subst (Consumes a.left b.left) f.fills.1 f.consumes;
+    left = f.fills.2;
+    later = f.cause.later;
+  }
+
+  end_in : (more : Bool) (left line b : ℕ) (bytes : List ℕ) → input_end (record { input = with_more more (input_of left (b ∷ bytes)); line = line }) ≡ Err (cond (left == 0) TooLong (Surplus (line + 1)))
+  unfolding input_of
+  end_in more zero line b bytes = rw (more_true more) refl
+  end_in more (suc left) line b bytes =
+      let some : (suc left == 0) ≡ false = grind arith in
+      rw some (by_test (eqb b 10) (input_of left bytes).lines (input_of left bytes).partial (input_of left bytes).goes_on)
+    where
+      by_test : (t : Bool) (lines : List (List ℕ)) (partial : List ℕ) (goes_on : Bool)
+          → (let i : Input = record { lines = lines; partial = partial; goes_on = goes_on } in
+          input_end (record { input = with_more more (cond t (record i { lines = [] ∷ lines }) (onto_lines b lines i)); line = line }) ≡ Err (Surplus (line + 1)))
+      by_test true lines partial goes_on = refl
+      by_test false [] partial goes_on = refl
+      by_test false (l ∷ lines) partial goes_on = refl
+
+  surplus_stops : (a b : Stream) (got : List ℕ) (t : Bool) (line : ℕ) → Settles limit input_end a.lines got (Err (cond t TooLong (Surplus line))) → StopsAs limit input_end a b got (cond t TooLong (Surplus line))
+  surplus_stops a b got true line settles = settles
+  surplus_stops a b got false line settles = settles
+
+  not_blamed : (t : Bool) (line : ℕ) → cond t TooLong (Surplus line) ≡ SourceFailed → ⊥
+  not_blamed true line e = cc
+  not_blamed false line e = cc
+
+  -- a byte comes after the end
+  pub end_surplus : (a b : Stream) (error : LineError) → Filled a b (Ok true) → error ≡ surplus_of limit b.lines → IsStopped limit input_end a b error
+  end_surplus a b error f is = rw is (record {
+    got = f.got;
+    consumes = f.consumes;
+    needed = filled_end a b (Ok true) f;
+    stops = surplus_stops a b f.got (limit - b.lines.read == 0) (b.lines.line + 1) (λ more rest. ap input_end (coming_filled a b (Ok true) f more rest) ∙ by_ahead more rest b.lines.ahead f.fills);
+    blames = other_blame a.faults b.faults _ f.cause.later (not_blamed (limit - b.lines.read == 0) (b.lines.line + 1));
+  })
+    where
+      by_ahead : (more : Bool) (rest ahead : List ℕ) → 0 < length ahead
+          → input_end (record { input = with_more more (input_of (limit - b.lines.read) (ahead ++ rest)); line = b.lines.line }) ≡ Err (surplus_of limit b.lines)
+      by_ahead more rest [] some = let no : ⊥ = omega arith in absurd no
+      by_ahead more rest (c ∷ ahead) some = end_in more (limit - b.lines.read) b.lines.line c (ahead ++ rest)
+
+  -- the source failed where the input was to end
+  pub end_failed : (a b : Stream) (failed : Failed) → Filled a b (Err failed) → IsStopped limit input_end a b SourceFailed
+  end_failed a b failed f = record {
+    got = f.got;
+    consumes = f.consumes;
+    needed = filled_end a b (Err failed) f;
+    stops = open_end true a.lines f.got f.fills.0 f.fills.1;
+    blames = record { later = f.cause.later; failed = λ _. f.cause.failed };
+  }
+
+pub no_length : (bytes : List ℕ) → length bytes ≡ 0 → bytes ≡ []
+no_length [] e = refl
+no_length (b ∷ bytes) e = let no : ⊥ = omega arith in absurd no

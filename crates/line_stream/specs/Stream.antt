@@ -1,0 +1,51 @@
+-- What contracts see of the lines of a source.
+use Rattle.std.specs.Prelude.{◌≡◌, ℕ, ◌-◌, ◌≤◌, ◌⊎◌, Bool, true, List, [], ◌++◌, length, Option, Some, IfSome, Result, Err}
+use Rattle.line_stream.specs.Input.{input_of, with_more}
+use Rattle.line_stream.specs.Coming.{Coming}
+
+-- a `Lines`: how many bytes and how many whole lines were read, the bytes that were read ahead,
+-- and the line that was kept
+pub record LinesState : Type 0 where
+  pub read : ℕ
+  pub line : ℕ
+  pub ahead : List ℕ
+  pub kept : List ℕ
+
+-- a `Lines`, the bytes that its source has left, and the source's count of faults
+pub record Stream : Type 0 where
+  pub lines : LinesState
+  pub left : Option (List ℕ)
+  pub faults : ℕ
+
+-- the stream of a `Lines` and a source with these members
+abbrev pub stream : {S : Type 0} → (S → Option (List ℕ)) → (S → ℕ) → LinesState → S → Stream
+stream left faults lines source =
+    record { lines = lines; left = left source; faults = faults source }
+
+-- what is still to come where these bytes come next of the source, and, where `more` holds,
+-- others after them
+abbrev pub coming_in : Bool → ℕ → LinesState → List ℕ → Coming
+coming_in more limit lines bytes =
+    record { input = with_more more (input_of (limit - lines.read) (lines.ahead ++ bytes)); line = lines.line }
+
+-- What is answered where these bytes were read is settled: it is that whatever comes after them.
+abbrev pub Settles : {T : Type 0} → ℕ → (Coming → T) → LinesState → List ℕ → T → Type 0
+Settles limit wanted lines got answer =
+    (more : Bool) (rest : List ℕ) → wanted (coming_in more limit lines (got ++ rest)) ≡ answer
+
+-- Bytes were read in pieces of at most 4,096, and those before the last piece left open what was
+-- wanted. That it is open is what an input answers that goes on after them.
+pub record IsLastPiece {T E : Type 0} (limit : ℕ) (wanted : Coming → Result T E) (open_ : E) (lines : LinesState) (got : List ℕ) : Type 0 where
+  pub front : List ℕ
+  pub piece : List ℕ
+  pub parts : got ≡ front ++ piece
+  pub few : length piece ≤ 4096
+  pub undecided : wanted (coming_in true limit lines front) ≡ Err open_
+
+-- no more bytes were read than were needed
+abbrev pub IsNeeded : {T E : Type 0} → ℕ → (Coming → Result T E) → E → LinesState → List ℕ → Type 0
+IsNeeded limit wanted open_ lines got = (got ≡ []) ⊎ IsLastPiece limit wanted open_ lines got
+
+-- the source ends here, where it tells its bytes
+abbrev pub HasEnded : Option (List ℕ) → Option (List ℕ) → Type 0
+HasEnded before after = IfSome before (λ _. after ≡ Some [])

@@ -1,0 +1,14 @@
+-- Reading an input to its end.
+use Rattle.std.specs.Prelude.{ℕ, ◌+◌, ◌<◌, ◌≤◌, Result, Ok, Err}
+use Rattle.port_io.specs.declared.whole.TheConstants.{PIECE}
+use Rattle.port_io.specs.declared.whole.ReadAll.{ReadAll}
+use Rattle.port_io.specs.declared.whole.ReadAll.TheVariants.{TooLong, ReadFault, NoMemory}
+
+-- How many bytes were read where this is answered. An input is too long as soon as more bytes came
+-- than the limit, and at most a piece is read past it. A fault, or want of memory, came before
+-- that.
+abbrev pub StopsWithin : {T : Type 0} → ℕ → ℕ → Result T ReadAll → Type 0
+StopsWithin limit read (Ok bytes) = read ≤ limit
+StopsWithin limit read (Err TooLong) = (limit < read) × (read ≤ limit + PIECE)
+StopsWithin limit read (Err ReadFault) = read ≤ limit
+StopsWithin limit read (Err NoMemory) = read ≤ limit

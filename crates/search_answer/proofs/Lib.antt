@@ -1,0 +1,5 @@
+mod FinishedMarks
+mod SplitNodes
+mod Remarking
+mod EndingLemmas
+mod ListedLemmas
