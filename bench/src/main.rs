@@ -9,6 +9,7 @@ mod roots;
 mod rows;
 mod solving;
 mod sorting;
+mod teams;
 
 fn main() {
     roots::measure();
@@ -17,4 +18,5 @@ fn main() {
     reading::measure();
     sorting::measure();
     solving::measure();
+    teams::measure();
 }

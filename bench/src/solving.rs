@@ -7,14 +7,14 @@ use std::io::Write;
 use std::process::{Command, Stdio};
 use std::time::Instant;
 
-const PROGRAM: &str = "../crates/bsss/out/bsss";
+pub const PROGRAM: &str = "../crates/bsss/out/bsss";
 const BUDGET: usize = 100_000;
 const POOL: usize = 100_000;
 
 type Pt = (i64, i64);
 
 /// The program's output for these words and this input, and its time in milliseconds.
-fn run(words: &[&str], input: &[u8]) -> (String, f64) {
+pub fn run(words: &[&str], input: &[u8]) -> (String, f64) {
     let start = Instant::now();
     let mut program = Command::new(PROGRAM)
         .args(words)
@@ -209,7 +209,7 @@ fn std_solve(i: &Instance) -> (i64, i64, usize, usize) {
 }
 
 /// An instance of one town beside a slanted edge, along which many squares stay open.
-const SLANT: &str = "siting 1\nkind sum\npoint -1000000 3 1\npermit 0 -1000000 1000000 -1000000 1000000 1000000 7 999999\nend\n";
+pub const SLANT: &str = "siting 1\nkind sum\npoint -1000000 3 1\npermit 0 -1000000 1000000 -1000000 1000000 1000000 7 999999\nend\n";
 
 /// The best time of two checks of an accepted answer, in milliseconds.
 fn time_of_check(answer: &str) -> f64 {

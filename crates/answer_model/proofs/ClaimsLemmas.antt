@@ -1,6 +1,6 @@
 -- A valid answer claims no more than holds: its bound is at most the cost of every permitted point, and its word is `solved`
 -- exactly where the upper cost is within the gap of the bound. The proof goes once along the marks.
-use Rattle.std.proofs.Common.{◌≡◌, ℕ, ◌+◌, ◌<◌, ◌==◌, ℤ, ◌+ℤ◌, ◌≤ℤ◌, Bool, true, false, cond, List, [], ◌∷◌, Option, None, Some, refl, sym, ap, ◌∙◌, subst, ◌⊎◌, inl, inr, ⊎_elim, arith}
+use Rattle.std.proofs.Common.{◌≡◌, ℕ, ◌+◌, ◌<◌, ◌==◌, ℤ, ◌+ℤ◌, ◌≤ℤ◌, Bool, true, false, cond, List, [], ◌∷◌, Option, None, Some, refl, sym, ap, ◌∙◌, subst, ◌⊎◌, inl, inr, arith}
 use Rattle.std.proofs.lemmas.Bool.{cases_Bool, cond-true, cond-false, true≢false, false≢true, eqb-true, false_from_ne_true}
 use Rattle.std.proofs.lemmas.Int.{clamps}
 use Rattle.std.specs.Prelude.{⊤, IsTrue, MatchOption, int_le, is_some}
@@ -66,6 +66,7 @@ pub fits_leaf : (b : Bool) (A B : Type 0) → b ≡ false → cond b A B → B
 fits_leaf true A B e h = absurd (true≢false e)
 fits_leaf false A B e h = h
 
+-- one square more: its mark's bound, or a later one, is at most the cost of a point that is held
 mark_reached : (i : Instance) (p : Point) (gap : ℤ) (u : Option ℤ) (t : TreeSquare) (m : Mark) (o : Option ℤ) (more : ℕ) → IsBounded i p → MarkFits i gap u t m → 0 < held p t + more → (0 < more → IsReached i p o) → ((t.is_split ≡ true) ⊎ (t.is_split ≡ false)) → ((holds t.square p ≡ true) ⊎ (holds t.square p ≡ false)) → IsReached i p (lesser (bound_of m) o)
 mark_reached i p gap u t m o more h fits some rest (inl split) holding =
     let e : held p t ≡ 0 = cond-true _ _ _ split in reached_right i p (bound_of m) o (rest (omega (arith, e)))
@@ -75,6 +76,7 @@ mark_reached i p gap u t m o more h fits some rest (inr leaf) (inl here) =
 mark_reached i p gap u t m o more h fits some rest (inr leaf) (inr away) =
     let e : held p t ≡ 0 = cond-false _ _ _ leaf ∙ cond-false _ _ _ away in reached_right i p (bound_of m) o (rest (omega (arith, e)))
 
+-- the least bound is at most the cost of each point that a leaf holds
 reached : (i : Instance) (p : Point) (gap : ℤ) (u : Option ℤ) (ts : List TreeSquare) (ms : List Mark) → IsBounded i p → MarksFit i gap u ts ms → 0 < total (held p) ts → IsReached i p (least_of ms)
 reached i p gap u [] [] h fits some = absurd (omega arith)
 reached i p gap u [] (m ∷ ms) h fits some = absurd fits
@@ -92,6 +94,7 @@ abbrev AllReach : ℤ → Option ℤ → Option ℤ → Type 0
 AllReach gap u None = ⊤
 AllReach gap u (Some b) = reaches u (b +ℤ gap) ≡ true
 
+-- what both bounds reach their lesser reaches
 lesser_reach : (gap : ℤ) (u a o : Option ℤ) → AllReach gap u a → AllReach gap u o → AllReach gap u (lesser a o)
 lesser_reach gap u None o h k = k
 lesser_reach gap u (Some a) None h k = h
@@ -105,6 +108,7 @@ lesser_reach gap u (Some a) (Some b) h k = least_reach (cases_Bool (int_le a b))
 settled : Mark → ℕ
 settled m = once (is_open m) + once (is_floor m)
 
+-- the bound of a settled leaf reaches the gap
 leaf_reach : (i : Instance) (gap : ℤ) (u : Option ℤ) (s : Square) → settled (leaf_mark i gap u s) ≡ 0 → AllReach gap u (bound_of (leaf_mark i gap u s))
 unfolding settled
 leaf_reach i gap u s none = by_excluded (cases_Bool (is_excluded i s)) (cases_Bool (reaches u (fine_of i s +ℤ gap))) (cases_Bool (s.level == 0))
@@ -115,6 +119,7 @@ leaf_reach i gap u s none = by_excluded (cases_Bool (is_excluded i s)) (cases_Bo
     by_excluded (inr open_) (inr short) (inl zero_level) = absurd (let e = rw (floor_leaf i gap u s open_ short zero_level) at none in omega (arith, e))
     by_excluded (inr open_) (inr short) (inr above) = absurd (let e = rw (left_leaf i gap u s open_ short above) at none in omega (arith, e))
 
+-- where the least bound reaches the gap, each leaf is settled
 leaf_settled : (i : Instance) (gap c : ℤ) (u : Option ℤ) (s : Square) → reaches u (c +ℤ gap) ≡ true → IsNoneOrAtLeast (bound_of (leaf_mark i gap u s)) c → settled (leaf_mark i gap u s) ≡ 0
 unfolding settled
 leaf_settled i gap c u s reach least = by_excluded (cases_Bool (is_excluded i s))
@@ -125,6 +130,7 @@ leaf_settled i gap c u s reach least = by_excluded (cases_Bool (is_excluded i s)
         let le : c ≤ℤ fine_of i s = rw (open_bound i gap u s open_) at least in
         rw (bounded_leaf i gap u s open_ (reaches_more u (c +ℤ gap) (fine_of i s +ℤ gap) (omega (arith, ints, le)) reach)) refl
 
+-- a split square counts as settled
 split_settled : (i : Instance) (gap : ℤ) (u : Option ℤ) (s : Square) (m : Mark) → SplitFits i gap u s m → settled m ≡ 0
 unfolding settled
 split_settled i gap u s (Split v) h = refl
@@ -133,6 +139,7 @@ split_settled i gap u s (Bounded b) h = absurd h
 split_settled i gap u s (FloorMark b) h = absurd h
 split_settled i gap u s (Left b) h = absurd h
 
+-- the bound of a square that is settled reaches the gap
 mark_reach : (i : Instance) (gap : ℤ) (u : Option ℤ) (t : TreeSquare) (m : Mark) → MarkFits i gap u t m → settled m ≡ 0 → ((t.is_split ≡ true) ⊎ (t.is_split ≡ false)) → AllReach gap u (bound_of m)
 mark_reach i gap u t m fits none (inl split) =
     let f : SplitFits i gap u t.square m = fits_split t.is_split _ _ split fits in
@@ -141,6 +148,7 @@ mark_reach i gap u t m fits none (inr leaf) =
     let e : m ≡ leaf_mark i gap u t.square = fits_leaf t.is_split _ _ leaf fits in
     subst (λ (k : Mark). AllReach gap u (bound_of k)) (sym e) (leaf_reach i gap u t.square (ap settled (sym e) ∙ none))
 
+-- where the least bound reaches the gap, each square is settled
 mark_settled : (i : Instance) (gap c : ℤ) (u : Option ℤ) (t : TreeSquare) (m : Mark) → MarkFits i gap u t m → reaches u (c +ℤ gap) ≡ true → IsNoneOrAtLeast (bound_of m) c → ((t.is_split ≡ true) ⊎ (t.is_split ≡ false)) → settled m ≡ 0
 mark_settled i gap c u t m fits reach least (inl split) =
     split_settled i gap u t.square m (fits_split t.is_split _ _ split fits)
@@ -148,6 +156,7 @@ mark_settled i gap c u t m fits reach least (inr leaf) =
     let e : m ≡ leaf_mark i gap u t.square = fits_leaf t.is_split _ _ leaf fits in
     ap settled e ∙ leaf_settled i gap c u t.square reach (subst (λ (k : Mark). IsNoneOrAtLeast (bound_of k) c) e least)
 
+-- where all squares are settled, the least bound reaches the gap
 all_reach : (i : Instance) (gap : ℤ) (u : Option ℤ) (ts : List TreeSquare) (ms : List Mark) → MarksFit i gap u ts ms → total settled ms ≡ 0 → AllReach gap u (least_of ms)
 all_reach i gap u [] [] fits none = tt
 all_reach i gap u [] (m ∷ ms) fits none = absurd fits
@@ -161,6 +170,7 @@ least_parts None o c h = (tt, h)
 least_parts (Some a) None c h = (h, tt)
 least_parts (Some a) (Some b) c h = (omega (arith, ints, clamps), omega (arith, ints, clamps))
 
+-- and where it does, all are
 all_settled : (i : Instance) (gap c : ℤ) (u : Option ℤ) (ts : List TreeSquare) (ms : List Mark) → MarksFit i gap u ts ms → reaches u (c +ℤ gap) ≡ true → IsNoneOrAtLeast (least_of ms) c → total settled ms ≡ 0
 all_settled i gap c u [] [] fits reach least = refl
 all_settled i gap c u [] (m ∷ ms) fits reach least = absurd fits
@@ -178,6 +188,7 @@ unsettled-tally ms = rw (count_by-total is_open ms, count_by-total is_floor ms) 
     both [] = refl
     both (m ∷ ms) = omega (arith, both ms)
 
+-- the word is `solved` only where there is a bound, and no leaf is open or of level 0
 solved_counts : (word : Word) (t : Tally) → has_word word t ≡ true → IsTrue (is_solved word) → (is_some t.least ≡ true) × (t.open_leaves + t.floor_leaves ≡ 0)
 solved_counts Solved t h said = by_tests (cases_Bool (is_some t.least)) (cases_Bool (t.open_leaves + t.floor_leaves == 0)) (cases_Bool (t.open_leaves == 0))
   where
@@ -216,6 +227,7 @@ bound_claim : (i : Instance) (o : Option ℤ) → ((p : Point) → IsTrue (permi
 bound_claim i None h = h
 bound_claim i (Some b) h = h
 
+-- a site with its computed costs has its cost between them
 site_claim : (i : Instance) (best : Option Best) → IsUnderstood i → MatchOption best ⊤ (IsPriced i) → MatchOption best ⊤ (IsEnclosed i)
 site_claim i None h priced = tt
 site_claim i (Some b) h priced = record {

@@ -4,6 +4,7 @@ use Rattle.siting_definitions.specs.Answer.{Head, IsHead}
 use Rattle.answer_model.specs.Head.{best_of}
 use Rattle.answer_model.specs.declared.head.Head.TheInside.{Inside}
 
+-- the head whose parts the fields have
 abbrev pub head_of : Inside → Head
 head_of a =
     record {

@@ -16,5 +16,6 @@ nodes_in_order (s ∷ coming) [] = []
 nodes_in_order (s ∷ coming) (m ∷ ms) =
     record { square = s; mark = m } ∷ nodes_in_order (coming_after s (is_split m) coming) ms
 
+-- the nodes of an answer, in preorder
 abbrev pub nodes_of : Answer → List Node
 nodes_of a = nodes_in_order (root_of a.head.instance ∷ []) a.marks

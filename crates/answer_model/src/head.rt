@@ -21,7 +21,8 @@ pub struct Head {
     pub pool: u32,
     /// The site, if there is one.
     pub site: Option<Site>,
-    /// The lower and the upper cost of the site, in cost units; none exactly where there is no site.
+    /// The lower and the upper cost of the site, in cost units; none
+    /// exactly where there is no site.
     pub cost: Option<(i64, i64)>,
     /// The lower bound over all permitted points, in cost units; none where no point is permitted.
     pub bound: Option<i64>,

@@ -9,8 +9,9 @@ ghost use Rattle.siting_definitions.specs.Tree.{Tree, preorder};
 ghost use Rattle.discard_log.specs.Nodes.{mark_of, tree_square};
 ghost use Rattle.answer_model.specs.Nodes.{nodes_of};
 
-/// A valid answer claims no more than holds: its two costs enclose the cost of its permitted site, its bound is at most the cost
-/// of every permitted point, and it says `solved` exactly where the upper cost is within the gap of the bound.
+/// A valid answer claims no more than holds: its two costs enclose the cost of its permitted site,
+/// its bound is at most the cost of every permitted point, and it says `solved` exactly where the
+/// upper cost is within the gap of the bound.
 pub fn a_valid_answer_claims()
     ensures { (a : Answer) → IsValid a → Claims a.head }
 {}

@@ -10,8 +10,8 @@ use objectives::{fine, reaches};
 use site_model::Instance;
 use siting_definitions::Mark;
 
-/// The finished mark of a leaf, for the gap and the least upper cost, if there is one, both in cost units: excluded, or settled by
-/// its fine bound, or of level 0, or left open with its fine bound.
+/// The finished mark of a leaf, for the gap and the least upper cost, if there is one, both in cost
+/// units: excluded, or settled by its fine bound, or of level 0, or left open with its fine bound.
 #[tactic(auto, unfolding(siting_definitions::specs::Marks::leaf_mark))]
 pub fn leaf_mark(instance: &Instance, gap: i64, least: Option<i64>, square: Square) -> Mark
     ensures value { result ≡ marks.leaf_mark instance.now gap least square }

@@ -1,30 +1,15 @@
 //! Tests of heads, marks and tallies.
 
 use super::*;
-use convex_region::Polygon;
-use exact_geometry::Place;
-use site_model::{DemandPt, Instance, Kind, Site};
+use case_maker::one_town;
+use site_model::Site;
 use siting_definitions::Mark;
 use std::alloc::Global;
 use std::process::Abort;
 
-#[tactic(auto, unfolding(siting_definitions::specs::Instance::weight))]
-fn instance(rt: &impl Abort, alloc: Global) -> Instance {
-    let corners = [
-        Place::of(0, 0),
-        Place::of(4, 0),
-        Place::of(4, 4),
-        Place::of(0, 4),
-    ];
-    let square = Polygon::build(alloc, &corners).expect(rt, "a polygon");
-    let points = Vec::from_array(alloc, [DemandPt::of(2, 2, 1, None)]).expect(rt, "memory");
-    let permitted = Vec::from_array(alloc, [square]).expect(rt, "memory");
-    Instance::build(Kind::Sum, points, permitted, Vec::new(alloc))
-}
-
 fn head(rt: &impl Abort, alloc: Global) -> Head {
     Head {
-        instance: instance(rt, alloc),
+        instance: one_town(alloc).expect(rt, "memory"),
         gap: 185,
         budget: 0,
         pool: 100_000,
@@ -54,7 +39,7 @@ fn the_site_with_its_costs(rt: HostRuntime) {
 
 #[test]
 fn the_mark_of_a_leaf(rt: HostRuntime) {
-    let instance = instance(&rt, rt.alloc());
+    let instance = one_town(rt.alloc()).expect(&rt, "memory");
     let root = instance.root();
     // The gap, the least upper cost, and the mark of the root, whose fine bound is 0.
     let cases = [

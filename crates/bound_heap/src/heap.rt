@@ -1,6 +1,7 @@
 //! The heap of the squares that wait.
 
-ghost use Rattle.std.specs.Prelude.{◌≡◌, ◌+◌, ◌<◌, ◌≤ℤ◌, ◌↔◌, [], ◌∷◌, length, All, IfNone, IfOk, IfSome, IsPermutation, IsSome};
+ghost use Rattle.std.specs.Prelude.{◌≡◌, ◌+◌, ◌<◌, ◌≤ℤ◌, ◌↔◌, [], ◌∷◌, length, All};
+ghost use Rattle.std.specs.Prelude.{IfNone, IfOk, IfSome, IsPermutation, IsSome};
 ghost use Rattle.bound_heap.specs.declared.entry.Entry as entries;
 
 use crate::entry::Entry;
@@ -13,8 +14,8 @@ use std::marker::Model;
 #[derive(Clone, Copy, Debug, PartialEq, Eq)]
 pub struct NoMemory;
 
-/// Entries, with room for a number of them that is fixed at the start. Contracts see the entries in an order that is
-/// free, and for how many more there is room.
+/// Entries, with room for a number of them that is fixed at the start. Contracts see the entries in
+/// an order that is free, and for how many more there is room.
 #[derive(Drop)]
 pub struct Heap {
     heap: BinaryHeap<Ranked>,
@@ -39,7 +40,8 @@ impl Model for Heap {
 }
 
 impl Heap {
-    /// An empty heap with room for `room` entries, whose memory is taken at once. `NoMemory` where memory ran out.
+    /// An empty heap with room for `room` entries, whose memory is taken at once. `NoMemory` where
+    /// memory ran out.
     pub fn with_room(alloc: Global, room: usize) -> Result<Heap, NoMemory>
         ensures { IfOk result (λ heap. heap ≡ record { entries = []; spare = room }) }
     {
@@ -75,8 +77,8 @@ impl Heap {
         }
     }
 
-    /// Takes out an entry of least bound, in cost units; of several, any one. Its room is free again. None exactly where
-    /// there is no entry.
+    /// Takes out an entry of least bound, in cost units; of several, any one. Its room is free
+    /// again. None exactly where there is no entry.
     pub fn pop(&mut self) -> Option<Entry>
         ensures some { IsSome result ↔ (0 < length self.old.entries) }
         ensures entries { IfSome result

@@ -31,7 +31,9 @@ impl Eq for Ranked {
 impl PartialOrd for Ranked {
     ghost partial_cmp = { as_partial_cmp (flip_args (on (λ r. r.entry.bound) int_cmp)) };
 
-    ghost laws = { partial_order_from_own_ties (Prim.search (comparing, rules)) (Prim.search (comparing, rules)) };
+    ghost laws = { partial_order_from_own_ties
+        (Prim.search (comparing, rules))
+        (Prim.search (comparing, rules)) };
 
     fn partial_cmp(&self, other: &Ranked) -> Option<Ordering> {
         Some(self.cmp(other))

@@ -1,7 +1,8 @@
-//! The program `bsss`: gives its words and its standard streams to the top call, and ends with the code of the status.
+//! The program `bsss`: gives its words and its standard streams to the top call, and ends with
+//! the code of the status.
 #![tactic(auto)]
 
-use bsss_cli::{Argv, run_alone};
+use bsss_cli::{Argv, OpenGate, run};
 use port_io::{StdSink, StdSource};
 use std::env;
 use std::io::ErrorKind;
@@ -18,7 +19,8 @@ fn main(rt: HostRuntime) -> ExitCode {
         Ok(words) => {
             let mut source = StdSource::new(rt.stdin());
             let mut sink = StdSink::new(rt.stdout());
-            ExitCode::from(run_alone(rt.alloc(), &words, &mut source, &mut sink).code())
+            let status = run(&rt, rt.alloc(), &words, &mut source, &mut sink, &OpenGate);
+            ExitCode::from(status.code())
         }
         Err(code) => ExitCode::from(code),
     }

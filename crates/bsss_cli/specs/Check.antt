@@ -5,10 +5,11 @@ use Rattle.siting_definitions.specs.Answer.{Answer, IsValid}
 use Rattle.siting_definitions.specs.Claims.{Claims}
 use Rattle.cert_checker.specs.declared.faults.CheckError.TheVariants as errors
 use Rattle.cert_checker.specs.Checking.{checking}
+use Rattle.cert_checker.specs.CheckReading.{so_far, IsNeededSoFar, IsInHead}
 use Rattle.bsss_cli.specs.declared.status.Status.{Status}
-use Rattle.bsss_cli.specs.declared.status.Status.TheVariants.{Accepted, Rejected, TooLong}
+use Rattle.bsss_cli.specs.declared.status.Status.TheVariants.{Accepted, Rejected, TooLong, ReadFault, NoMemory}
 use Rattle.bsss_cli.specs.Texts.{too_long, accepted, rejected}
-use Rattle.bsss_cli.specs.Outcome.{Promise}
+use Rattle.bsss_cli.specs.Outcome.{Promise, OfBytes}
 
 -- the bytes are the text of a valid answer, which then claims no more than holds
 pub record IsAccepted (bytes : List ℕ) : Type 0 where
@@ -17,14 +18,14 @@ pub record IsAccepted (bytes : List ℕ) : Type 0 where
   pub valid : IsValid answer
   pub claims : Claims answer.head
 
--- What a check may answer, and the text that it writes then: each status only where its condition on
--- the bytes holds; no two hold at once.
+-- What a check may answer, and the text that it writes then: each status only where its condition
+-- on the bytes holds. Of bytes that are told, no two hold at once.
 abbrev pub CheckAnswers : Option (List ℕ) → Status → List ℕ → Type 0
-CheckAnswers told Accepted text = (text ≡ accepted) × IfSome told IsAccepted
+CheckAnswers told Accepted text = (text ≡ accepted) × OfBytes told IsAccepted
 CheckAnswers told (Rejected fault) text =
-    (text ≡ rejected fault) × IfSome told (λ bytes. checking bytes ≡ Err (errors.Fault fault))
+    (text ≡ rejected fault) × OfBytes told (λ bytes. checking bytes ≡ Err (errors.Fault fault))
 CheckAnswers told TooLong text =
-    (text ≡ too_long) × IfSome told (λ bytes. checking bytes ≡ Err errors.TooLong)
+    (text ≡ too_long) × OfBytes told (λ bytes. checking bytes ≡ Err errors.TooLong)
 CheckAnswers told _ text = ⊥
 
 -- acceptance of each valid answer
@@ -32,5 +33,18 @@ abbrev pub CheckWants : Option (List ℕ) → Status → Type 0
 CheckWants told status =
     IfSome told (λ bytes. (a : Answer) → IsValid a → bytes ≡ answer_text a → status ≡ Accepted)
 
+-- How much of its source a check read: no more than its first fault needs. Where reading failed,
+-- there was no fault so far; and only the head takes memory.
+abbrev pub CheckStops : List ℕ → Status → Type 0
+CheckStops got ReadFault = so_far got ≡ Err errors.TooLong
+CheckStops got NoMemory = IsInHead got
+CheckStops got status = IsNeededSoFar got
+
 abbrev pub check : Promise
-check = record { reads = true; answers = CheckAnswers; wanted = CheckWants }
+check = record {
+  reads = true;
+  takes_memory = true;
+  stops = CheckStops;
+  answers = CheckAnswers;
+  wanted = CheckWants;
+}

@@ -1,7 +1,9 @@
 pub mod Texts
 pub mod Status
+pub mod Ports
 pub mod Outcome
 pub mod Solve
+pub mod Begun
 pub mod Check
 pub mod Make
 pub mod Commands

@@ -1,5 +1,5 @@
 -- What `make` answers.
-use Rattle.std.specs.Prelude.{◌≡◌, ℕ, false}
+use Rattle.std.specs.Prelude.{◌≡◌, ℕ, true, false, ⊤}
 use Rattle.siting_definitions.specs.InstanceText.{instance_text}
 use Rattle.case_maker.specs.Made.{made}
 use Rattle.bsss_cli.specs.declared.status.Status.TheVariants.{Made}
@@ -9,6 +9,8 @@ use Rattle.bsss_cli.specs.Outcome.{Promise}
 abbrev pub make : ℕ → ℕ → Promise
 make seed points = record {
   reads = false;
+  takes_memory = true;
+  stops = λ got status. ⊤;
   answers = λ told status text. (status ≡ Made) × (text ≡ instance_text (made seed points));
   wanted = λ told status. status ≡ Made;
 }

@@ -1,25 +1,33 @@
 -- What a run of the program answers, reads and writes, whatever its command.
 use Rattle.std.specs.Prelude.{◌≡◌, ◌≢◌, ◌⊎◌, ℕ, Bool, true, false, List, [], Option, Some, None, IfSome, ⊤}
+use Rattle.std.specs.Io.KnownBytes.{Consumes}
 use Rattle.port_io.specs.Faults.{Rose}
 use Rattle.port_io.specs.Bytes.{Took, TookFront}
-use Rattle.port_io.specs.Output.{SinkView, sink_view}
+use Rattle.port_io.specs.Output.{SinkView}
 use Rattle.bsss_cli.specs.declared.status.Status.{Status}
-use Rattle.bsss_cli.specs.declared.status.Status.TheVariants.{ReadFault, WriteFault}
-use Rattle.bsss_cli.specs.Status.{Extent, Whole, Front, Nothing, meaning_of, HasReadAll, IsOutside}
+use Rattle.bsss_cli.specs.declared.status.Status.TheVariants.{ReadFault, WriteFault, NoMemory}
+use Rattle.bsss_cli.specs.Status.{Extent, Whole, Front, Nothing, meaning_of, HasReadAll, HasWrittenNothing, IsOutside}
+use Rattle.bsss_cli.specs.Ports.{SourceGhosts, SinkGhosts, view, KeepsSource, KeepsSink}
 
 -- What a run with a command promises. Where a source tells its bytes, these are `told`.
 pub record Promise : Type 1 where
   -- whether it reads its source
   pub reads : Bool
+  -- whether it takes memory
+  pub takes_memory : Bool
+  -- what was read of its source when it answers a status, where the source tells its bytes
+  pub stops : (got : List ℕ) → Status → Type 0
   -- the statuses that it may answer, each with the text that it writes then
   pub answers : (told : Option (List ℕ)) → Status → (text : List ℕ) → Type 0
   -- the statuses that must come where the outside has no fault and there is memory
   pub wanted : (told : Option (List ℕ)) → Status → Type 0
 
--- it reads nothing, and answers one status with one text
+-- it reads nothing, takes no memory, and answers one status with one text
 abbrev pub refusal : Status → List ℕ → Promise
 refusal says words = record {
   reads = false;
+  takes_memory = false;
+  stops = λ got status. ⊤;
   answers = λ told status text. (status ≡ says) × (text ≡ words);
   wanted = λ told status. ⊤;
 }
@@ -31,13 +39,15 @@ OfBytes (Some bytes) P = P bytes
 
 -- ---- what was written
 -- the sink took the whole text of an answer
-pub record Finished (p : Promise) (told : Option (List ℕ)) (before after : SinkView) (status : Status) : Type 0 where
+pub record Finished (p : Promise) (told : Option (List ℕ)) (before after : SinkView)
+    (status : Status) : Type 0 where
   pub text : List ℕ
   pub answers : p.answers told status text
   pub took : Took before.room before.taken after.taken text
 
 -- the sink took a prefix of the text of what the run was to answer
-pub record CutShort (p : Promise) (told : Option (List ℕ)) (before after : SinkView) : Type 0 where
+pub record CutShort (p : Promise) (told : Option (List ℕ)) (before after : SinkView)
+    : Type 0 where
   pub status : Status
   pub text : List ℕ
   pub answers : p.answers told status text
@@ -60,28 +70,49 @@ Completes p told status = p.wanted told status ⊎ IsOutside status
 -- ---- what a run did to its sink and its source, of which these are the ghost members
 -- It wrote a text to say this status: the sink took the whole text, or a front of it and the status
 -- is WriteFault.
-pub record Says {K : Type 0} (room : K → Option ℕ) (taken : K → Option (List ℕ)) (faults : K → ℕ)
-    (before after : K) (says : Status) (text : List ℕ) (status : Status) : Type 0 where
+pub record Says {K : Type 0} (k : SinkGhosts K) (before after : K) (says : Status) (text : List ℕ)
+    (status : Status) : Type 0 where
   pub outcome :
-      ((status ≡ says) × Took (room before) (taken before) (taken after) text)
-      ⊎ ((status ≡ WriteFault) × TookFront (room before) (taken before) (taken after) text
-      × Rose (faults before) (faults after))
+      ((status ≡ says) × Took (k.room before) (k.taken before) (k.taken after) text)
+      ⊎ ((status ≡ WriteFault) × TookFront (k.room before) (k.taken before) (k.taken after) text
+      × Rose (k.faults before) (k.faults after))
+  pub sink : KeepsSink k before after status
 
 -- it wrote as it promised, and read nothing more
-pub record Ended {K : Type 0} (room : K → Option ℕ) (taken : K → Option (List ℕ)) (faults : K → ℕ)
-    (p : Promise) (told : Option (List ℕ)) (before after : K) (status : Status) : Type 0 where
-  pub written : Writes p told (sink_view room taken faults before) (sink_view room taken faults after) status
-  pub write_fault : status ≡ WriteFault → Rose (faults before) (faults after)
+pub record Ended {K : Type 0} (k : SinkGhosts K) (p : Promise) (told : Option (List ℕ))
+    (before after : K) (status : Status) : Type 0 where
+  pub written : Writes p told (view k before) (view k after) status
+  pub unwritten : HasWrittenNothing status → after ≡ before
+  pub write_fault : status ≡ WriteFault → Rose (k.faults before) (k.faults after)
   pub no_read_fault : status ≢ ReadFault
   pub read : HasReadAll status → p.reads ≡ true
+  pub memory : status ≡ NoMemory → p.takes_memory ≡ true
+  pub sink : KeepsSink k before after status
 
--- it read and wrote as it promised
-pub record Ran {S K : Type 0} (left : S → Option (List ℕ)) (lost : S → ℕ)
-    (room : K → Option ℕ) (taken : K → Option (List ℕ)) (faults : K → ℕ)
-    (p : Promise) (source rest : S) (before after : K) (status : Status) : Type 0 where
-  pub written : Writes p (left source) (sink_view room taken faults before) (sink_view room taken faults after) status
-  pub write_fault : status ≡ WriteFault → Rose (faults before) (faults after)
-  pub read_fault : status ≡ ReadFault → Rose (lost source) (lost rest)
+-- the bytes that were read of a source that tells them
+pub record HasRead (p : Promise) (before after : Option (List ℕ)) (status : Status) : Type 0 where
+  pub got : List ℕ
+  pub consumed : Consumes before after got
+  pub stops : p.stops got status
+
+-- What a run did: it read and wrote as it promised, and each status has its cause.
+pub record Ran {S K : Type 0} (s : SourceGhosts S) (k : SinkGhosts K) (p : Promise)
+    (old_source new_source : S) (old_sink new_sink : K) (status : Status) : Type 0 where
+  -- what the sink took
+  pub written : Writes p (s.left old_source) (view k old_sink) (view k new_sink) status
+  pub unwritten : HasWrittenNothing status → new_sink ≡ old_sink
+  -- the causes from outside: a fault was counted, or memory was taken
+  pub write_fault : status ≡ WriteFault → Rose (k.faults old_sink) (k.faults new_sink)
+  pub read_fault : status ≡ ReadFault → Rose (s.faults old_source) (s.faults new_source)
+  pub memory : status ≡ NoMemory → p.takes_memory ≡ true
+  -- what was read
   pub reader : status ≡ ReadFault → p.reads ≡ true
-  pub unread : p.reads ≡ false → left rest ≡ left source
-  pub read : HasReadAll status → IfSome (left source) (λ bytes. left rest ≡ Some [])
+  pub unread : p.reads ≡ false → new_source ≡ old_source
+  pub read : HasReadAll status
+      → IfSome (s.left old_source) (λ bytes. s.left new_source ≡ Some [])
+  pub stops : p.reads ≡ true
+      → IfSome (s.left old_source)
+      (λ bytes. HasRead p (s.left old_source) (s.left new_source) status)
+  -- what stays, so that another run may follow
+  pub source : KeepsSource s old_source new_source status
+  pub sink : KeepsSink k old_sink new_sink status

@@ -1,5 +1,5 @@
 -- What a solve answers.
-use Rattle.std.specs.Prelude.{◌≡◌, ℕ, ℤ, ◌<◌, ◌≤◌, Bool, true, cond, ◌==◌, List, length, Option, IfSome, MatchOption, Ok, Err, option_map}
+use Rattle.std.specs.Prelude.{◌≡◌, ℕ, ℤ, ◌+◌, ◌<◌, ◌≤◌, true, List, length, Option, Some, None, IfSome, MatchOption, Ok, Err, option_map}
 use Rattle.siting_definitions.specs.declared.Word.{Word}
 use Rattle.siting_definitions.specs.Point.{Pt}
 use Rattle.siting_definitions.specs.Instance.{Instance}
@@ -12,14 +12,10 @@ use Rattle.instance_text.specs.Reading.{reading}
 use Rattle.pool_core.specs.Job.{Job}
 use Rattle.command_line.specs.declared.command.Settings.{Settings}
 use Rattle.bsss_cli.specs.declared.status.Status.{Status}
-use Rattle.bsss_cli.specs.declared.status.Status.TheVariants.{NotBuilt, BadInstance, TooLong}
+use Rattle.bsss_cli.specs.declared.status.Status.TheVariants.{BadInstance, TooLong, ReadFault, NoMemory}
 use Rattle.bsss_cli.specs.Status.{meaning_of, IsAnswer}
-use Rattle.bsss_cli.specs.Texts.{instance_limit, not_built, too_long, bad_instance}
-use Rattle.bsss_cli.specs.Outcome.{Promise, refusal, OfBytes}
-
--- whether a solve is built: with one worker
-abbrev pub is_built : Settings → Bool
-is_built s = s.workers == 1
+use Rattle.bsss_cli.specs.Texts.{instance_limit, too_long, bad_instance}
+use Rattle.bsss_cli.specs.Outcome.{Promise, OfBytes}
 
 -- the opening with its upper cost, if there is one
 abbrev pub opening_offer : Instance → Option (Pt × ℤ)
@@ -61,15 +57,16 @@ HasFault number line bytes =
     (length bytes ≤ instance_limit)
     × (reading bytes ≡ Err (record { number = number; line = line }))
 
--- What a solve may answer, and the text that it writes then: each status only where its condition on
--- the bytes holds; no two hold at once.
+-- What a solve may answer, and the text that it writes then: each status only where its condition
+-- on the bytes holds. Of bytes that are told, the refusals exclude one another and each answer.
 abbrev pub SolveAnswers : Settings → Option (List ℕ) → Status → List ℕ → Type 0
 SolveAnswers s told (BadInstance number line) text =
     (text ≡ bad_instance number line) × OfBytes told (HasFault number line)
 SolveAnswers s told TooLong text =
     (text ≡ too_long) × IfSome told (λ bytes. instance_limit < length bytes)
 SolveAnswers s told status text =
-    MatchOption (meaning_of status).word ⊥ (λ word. OfBytes told (λ bytes. Solves s bytes word text))
+    MatchOption (meaning_of status).word ⊥
+    (λ word. OfBytes told (λ bytes. Solves s bytes word text))
 
 -- an answer to each instance text within the limit
 abbrev pub SolveWants : Option (List ℕ) → Status → Type 0
@@ -77,8 +74,18 @@ SolveWants told status =
     IfSome told (λ bytes. (i : Instance) → length bytes ≤ instance_limit → reading bytes ≡ Ok i
     → IsAnswer status)
 
-abbrev pub built_solve : Settings → Promise
-built_solve s = record { reads = true; answers = SolveAnswers s; wanted = SolveWants }
+-- How much of its source a solve read: a fault of reading and want of memory came before more than
+-- the limit was read, and never is more than a piece read past it.
+abbrev pub SolveStops : List ℕ → Status → Type 0
+SolveStops got ReadFault = length got ≤ instance_limit
+SolveStops got NoMemory = length got ≤ instance_limit
+SolveStops got status = length got ≤ instance_limit + 4096
 
 abbrev pub solve : Settings → Promise
-solve s = cond (is_built s) (built_solve s) (refusal NotBuilt not_built)
+solve s = record {
+  reads = true;
+  takes_memory = true;
+  stops = SolveStops;
+  answers = SolveAnswers s;
+  wanted = SolveWants;
+}

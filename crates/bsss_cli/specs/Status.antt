@@ -1,5 +1,5 @@
 -- The statuses of a run, and what each says.
-use Rattle.std.specs.Prelude.{◌≢◌, ℕ, Bool, true, false, is_some, IsTrue, Option, Some, None, Result, Ok, Err}
+use Rattle.std.specs.Prelude.{◌≡◌, ◌≢◌, ℕ, Bool, true, false, is_some, IsTrue, Option, Some, None, Result, Ok, Err}
 use Rattle.siting_definitions.specs.declared.Word.{Word}
 use Rattle.siting_definitions.specs.declared.Word.TheVariants as words
 use Rattle.bsss_cli.specs.declared.status.Status.{Status}
@@ -50,6 +50,10 @@ code_of status = (meaning_of status).code
 -- a status that comes only after the source was read to its end
 abbrev pub HasReadAll : Status → Type 0
 HasReadAll status = IsTrue (meaning_of status).read_all
+
+-- a status with which nothing was written
+abbrev pub HasWrittenNothing : Status → Type 0
+HasWrittenNothing status = (meaning_of status).taken ≡ Nothing
 
 -- the status of an answer
 abbrev pub IsAnswer : Status → Type 0

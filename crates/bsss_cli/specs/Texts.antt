@@ -22,7 +22,8 @@ accepted = codes "accepted\n"
 
 -- a fault by its number and its line, after a word and before the rest
 abbrev pub fault_text : List ℕ → ℕ → ℕ → List ℕ → List ℕ
-fault_text word number line rest = word ++ (decimal number ++ (codes " line " ++ (decimal line ++ rest)))
+fault_text word number line rest =
+    word ++ (decimal number ++ (codes " line " ++ (decimal line ++ rest)))
 
 abbrev pub bad_instance : ℕ → ℕ → List ℕ
 bad_instance number line = fault_text (codes "bad instance ") number line (codes "\n")
@@ -34,7 +35,9 @@ value_text (Some z) = signed_decimal z
 
 abbrev pub differ_text : Option Differ → List ℕ
 differ_text None = codes "\n"
-differ_text (Some d) = codes " has " ++ (value_text d.has ++ (codes " wants " ++ (value_text d.wants ++ codes "\n")))
+differ_text (Some d) =
+    codes " has "
+    ++ (value_text d.has ++ (codes " wants " ++ (value_text d.wants ++ codes "\n")))
 
 abbrev pub rejected : CheckFault → List ℕ
 rejected f = fault_text (codes "rejected ") f.number f.line (differ_text f.differ)

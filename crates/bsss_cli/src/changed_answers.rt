@@ -1,10 +1,13 @@
 //! Answers with one line changed, and what `check` writes of them.
 
-use super::tests::run;
+use super::tests::run_words;
 use std::alloc::Global;
+use std::sync::Wait;
 use std::test::Fail;
+use std::thread::Threads;
 
-/// A line of an answer, and what `check` writes where the line is missing, and where it stands twice.
+/// A line of an answer, and what `check` writes where the line is missing, and where it stands
+/// twice.
 type Line = (&'static str, &'static str, &'static str);
 
 /// The number of a line, what stands in its place, and what `check` then writes.
@@ -182,7 +185,8 @@ const NO_SITE_CHANGES: [Change; 43] = [
     (27, "O -559941", "rejected 8 line 27 has -559941 wants -559940"),
 ];
 
-/// A town at an irrational distance from its triangle: with no gap, line 34 of the answer is an unsettled leaf of level 0.
+/// A town at an irrational distance from its triangle: with no gap, line 34 of the answer is an
+/// unsettled leaf of level 0.
 const IRRATIONAL: &str = "siting 1\nkind sum\npoint -1 -1 1\npermit 0 0 1 0 0 1\nend\n";
 
 #[rattlefmt::skip]
@@ -213,12 +217,18 @@ fn text_of(alloc: Global, lines: &[Line]) -> Result<String, Fail> {
 }
 
 /// The line that `check` writes of the text with `instead` in the place of the line of this number.
-fn check_with(alloc: Global, text: &str, number: usize, instead: &str) -> Result<String, Fail> {
+fn check_with(
+    rt: &(impl Threads + Wait + Sync),
+    alloc: Global,
+    text: &str,
+    number: usize,
+    instead: &str,
+) -> Result<String, Fail> {
     let mut changed = String::new(alloc);
     for (i, line) in text.split_inclusive('\n').enumerate() {
         changed.push_str(if i + 1 == number { instead } else { line })?;
     }
-    let (_, sink) = run(alloc, "check", changed.as_str())?;
+    let (_, sink) = run_words(rt, alloc, "check", changed.as_str())?;
     let written = str::from_utf8(sink.bytes())?;
     let line = written.strip_suffix('\n').ok_or("no line feed")?;
     Ok(String::from_str(alloc, line)?)
@@ -231,7 +241,7 @@ fn a_line_is_missing_or_stands_twice(rt: HostRuntime) -> Result<(), Fail> {
         for (i, (line, missing, twice)) in lines.iter().enumerate() {
             let doubled = format!(in rt.alloc(); "{line}\n{line}\n")?;
             for (instead, wanted) in [("", missing), (doubled.as_str(), twice)] {
-                let written = check_with(rt.alloc(), text.as_str(), i + 1, instead)?;
+                let written = check_with(&rt, rt.alloc(), text.as_str(), i + 1, instead)?;
                 assert_eq!(rt; written.as_str(), *wanted, "{line}: {instead}");
             }
         }
@@ -243,7 +253,7 @@ fn a_line_is_missing_or_stands_twice(rt: HostRuntime) -> Result<(), Fail> {
 fn a_line_is_changed(rt: HostRuntime) -> Result<(), Fail> {
     let pool_full = text_of(rt.alloc(), &POOL_FULL)?;
     let no_site = text_of(rt.alloc(), &NO_SITE)?;
-    let (_, sink) = run(rt.alloc(), "solve gap=0", IRRATIONAL)?;
+    let (_, sink) = run_words(&rt, rt.alloc(), "solve gap=0", IRRATIONAL)?;
     let answers = [
         (pool_full.as_str(), POOL_FULL_CHANGES.as_slice()),
         (no_site.as_str(), NO_SITE_CHANGES.as_slice()),
@@ -252,7 +262,7 @@ fn a_line_is_changed(rt: HostRuntime) -> Result<(), Fail> {
     for (text, changes) in answers {
         for (number, line, wanted) in changes {
             let instead = format!(in rt.alloc(); "{line}\n")?;
-            let written = check_with(rt.alloc(), text, *number, instead.as_str())?;
+            let written = check_with(&rt, rt.alloc(), text, *number, instead.as_str())?;
             assert_eq!(rt; written.as_str(), *wanted, "line {number}: {line}");
         }
     }

@@ -5,10 +5,10 @@ ghost use Rattle.siting_definitions.specs.Sites as sites;
 ghost use Rattle.command_line.specs.Command.{IsGapRule};
 
 use site_model::Site;
-use siting_definitions::GapRule;
+use siting_definitions::{GapRule, UNIT};
 
-/// The gap asked, in cost units, by the rule and the opening with its upper cost. Without an opening it is 65536 cost units,
-/// unless it is fixed.
+/// The gap asked, in cost units, by the rule and the opening with its upper cost. Without an
+/// opening it is 65536 cost units, unless it is fixed.
 pub fn gap_of(rule: GapRule, opening: Option<(Site, i64)>) -> i64
     requires rule { IsGapRule rule }
     requires opening { IfSome opening (λ b. unsigned_abs b.1 ≤ 2 ^ 62) }
@@ -19,7 +19,7 @@ pub fn gap_of(rule: GapRule, opening: Option<(Site, i64)>) -> i64
     match rule {
         GapRule::Fixed(gap) => gap,
         GapRule::Ppm(ppm) => match opening {
-            None => 65536,
+            None => UNIT as i64,
             Some((_, upper)) => share_of(upper, ppm),
         },
     }

@@ -9,6 +9,7 @@ ghost use Rattle.discard_log.specs.Nodes.{mark_of};
 ghost use Rattle.bsss_cli.specs.Texts as texts;
 ghost use Rattle.bsss_cli.specs.Texts.{bad_instance, rejected};
 ghost use Rattle.bsss_cli.specs.Status as statuses;
+ghost use Rattle.bsss_cli.specs.Ports.{sink_ghosts};
 ghost use Rattle.bsss_cli.specs.Outcome.{Says};
 
 use crate::status::{Status, report, status_of};
@@ -22,14 +23,15 @@ use site_model::Instance;
 
 /// Writes a text, to say a status.
 pub(crate) fn say<K: Sink>(text: &[u8], status: Status, sink: &mut K) -> Status
-    ensures { Says K.room K.taken K.faults sink.old sink.new status text.now result }
+    ensures { Says (sink_ghosts K.room K.taken K.faults K.is_strict)
+        sink.old sink.new status text.now result }
 {
     report(put_text(text, sink), status)
 }
 
 /// Says which fault an instance text has.
 pub(crate) fn say_bad_instance<K: Sink>(fault: InstanceFault, sink: &mut K) -> Status
-    ensures { Says K.room K.taken K.faults sink.old sink.new
+    ensures { Says (sink_ghosts K.room K.taken K.faults K.is_strict) sink.old sink.new
         (Status.BadInstance fault.number fault.line) (bad_instance fault.number fault.line) result }
 {
     let status = Status::BadInstance {
@@ -41,7 +43,7 @@ pub(crate) fn say_bad_instance<K: Sink>(fault: InstanceFault, sink: &mut K) -> S
 
 /// Says which fault a text has that isn't that of a valid answer.
 pub(crate) fn say_rejected<K: Sink>(fault: CheckFault, sink: &mut K) -> Status
-    ensures { Says K.room K.taken K.faults sink.old sink.new
+    ensures { Says (sink_ghosts K.room K.taken K.faults K.is_strict) sink.old sink.new
         (Status.Rejected fault) (rejected fault) result }
 {
     report(put_rejected(&fault, sink), Status::Rejected(fault))
@@ -49,7 +51,7 @@ pub(crate) fn say_rejected<K: Sink>(fault: CheckFault, sink: &mut K) -> Status
 
 /// Writes a made instance.
 pub(crate) fn say_made<K: Sink>(instance: &Instance, sink: &mut K) -> Status
-    ensures { Says K.room K.taken K.faults sink.old sink.new
+    ensures { Says (sink_ghosts K.room K.taken K.faults K.is_strict) sink.old sink.new
         Status.Made (instance_text instance.now) result }
 {
     report(put_instance(instance, sink), Status::Made)
@@ -57,7 +59,8 @@ pub(crate) fn say_made<K: Sink>(instance: &Instance, sink: &mut K) -> Status
 
 /// Writes an answer, with the status of its word.
 pub(crate) fn say_answer<K: Sink>(head: &Head, nodes: &NodeList, sink: &mut K) -> Status
-    ensures { Says K.room K.taken K.faults sink.old sink.new (statuses.status_of head.now.word)
+    ensures { Says (sink_ghosts K.room K.taken K.faults K.is_strict)
+        sink.old sink.new (statuses.status_of head.now.word)
         (answer_text (record { head = head.now; marks = map mark_of nodes.now })) result }
 {
     let status = status_of(head.word);
@@ -66,8 +69,8 @@ pub(crate) fn say_answer<K: Sink>(head: &Head, nodes: &NodeList, sink: &mut K) -
 
 /// Writes a text.
 fn put_text<K: Sink>(text: &[u8], sink: &mut K) -> Result<(), WriteFault>
-    ensures { Wrote (sink_view K.room K.taken K.faults sink.old)
-        (sink_view K.room K.taken K.faults sink.new) text.now result }
+    ensures { Wrote (sink_view K.room K.taken K.faults K.is_strict sink.old)
+        (sink_view K.room K.taken K.faults K.is_strict sink.new) text.now result }
 {
     let mut out = Out::new(sink);
     out.put(text)?;
@@ -76,8 +79,8 @@ fn put_text<K: Sink>(text: &[u8], sink: &mut K) -> Result<(), WriteFault>
 
 /// Writes which fault an instance text has.
 fn put_bad_instance<K: Sink>(fault: InstanceFault, sink: &mut K) -> Result<(), WriteFault>
-    ensures { Wrote (sink_view K.room K.taken K.faults sink.old)
-        (sink_view K.room K.taken K.faults sink.new)
+    ensures { Wrote (sink_view K.room K.taken K.faults K.is_strict sink.old)
+        (sink_view K.room K.taken K.faults K.is_strict sink.new)
         (bad_instance fault.number fault.line) result }
 {
     let mut number = itoa::Buffer::new();
@@ -92,8 +95,8 @@ fn put_bad_instance<K: Sink>(fault: InstanceFault, sink: &mut K) -> Result<(), W
 
 /// Writes which fault a text has that isn't that of a valid answer.
 fn put_rejected<K: Sink>(fault: &CheckFault, sink: &mut K) -> Result<(), WriteFault>
-    ensures { Wrote (sink_view K.room K.taken K.faults sink.old)
-        (sink_view K.room K.taken K.faults sink.new)
+    ensures { Wrote (sink_view K.room K.taken K.faults K.is_strict sink.old)
+        (sink_view K.room K.taken K.faults K.is_strict sink.new)
         (rejected fault.now) result }
 {
     let mut number = itoa::Buffer::new();
@@ -113,8 +116,8 @@ fn put_fault<'x, K: Sink>(
     line: &'x [u8],
     sink: &mut K,
 ) -> Result<(), WriteFault>
-    ensures { Wrote (sink_view K.room K.taken K.faults sink.old)
-        (sink_view K.room K.taken K.faults sink.new)
+    ensures { Wrote (sink_view K.room K.taken K.faults K.is_strict sink.old)
+        (sink_view K.room K.taken K.faults K.is_strict sink.new)
         (word.now ++ (number.now ++ (codes " line " ++ (line.now ++ codes "\n")))) result }
 {
     let mut out = Out::new(sink);
@@ -135,8 +138,8 @@ fn put_differing<'x, K: Sink>(
     differ: Differ,
     sink: &mut K,
 ) -> Result<(), WriteFault>
-    ensures { Wrote (sink_view K.room K.taken K.faults sink.old)
-        (sink_view K.room K.taken K.faults sink.new)
+    ensures { Wrote (sink_view K.room K.taken K.faults K.is_strict sink.old)
+        (sink_view K.room K.taken K.faults K.is_strict sink.new)
         (codes "rejected " ++ (number.now ++ (codes " line " ++ (line.now
         ++ (codes " has " ++ (texts.value_text differ.has
         ++ (codes " wants " ++ (texts.value_text differ.wants ++ codes "\n")))))))) result }
@@ -168,8 +171,8 @@ fn value_piece(value: Option<i64>) -> Piece<'static>
 
 /// Writes the canonical text of an instance.
 fn put_instance<K: Sink>(instance: &Instance, sink: &mut K) -> Result<(), WriteFault>
-    ensures { Wrote (sink_view K.room K.taken K.faults sink.old)
-        (sink_view K.room K.taken K.faults sink.new)
+    ensures { Wrote (sink_view K.room K.taken K.faults K.is_strict sink.old)
+        (sink_view K.room K.taken K.faults K.is_strict sink.new)
         (instance_text instance.now) result }
 {
     let mut out = Out::new(sink);
@@ -179,8 +182,8 @@ fn put_instance<K: Sink>(instance: &Instance, sink: &mut K) -> Result<(), WriteF
 
 /// Writes an answer.
 fn put_answer<K: Sink>(head: &Head, nodes: &NodeList, sink: &mut K) -> Result<(), WriteFault>
-    ensures { Wrote (sink_view K.room K.taken K.faults sink.old)
-        (sink_view K.room K.taken K.faults sink.new)
+    ensures { Wrote (sink_view K.room K.taken K.faults K.is_strict sink.old)
+        (sink_view K.room K.taken K.faults K.is_strict sink.new)
         (answer_text (record { head = head.now; marks = map mark_of nodes.now })) result }
 {
     let mut out = Out::new(sink);

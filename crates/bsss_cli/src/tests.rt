@@ -6,13 +6,16 @@ mod checks;
 mod limits;
 mod refusals;
 mod solves;
+mod teams;
 
-use crate::{Argv, GapRule, Status, gap_of, run_alone};
+use crate::{Argv, GapRule, OpenGate, Status, gap_of, run};
 use cert_checker::CheckFault;
 use port_io::{MemSink, MemSource};
 use site_model::Site;
 use std::alloc::Global;
+use std::sync::Wait;
 use std::test::Fail;
+use std::thread::Threads;
 
 /// A town at the origin, and a triangle that doesn't reach it.
 const CORNER: &str = "siting 1\nkind sum\npoint 0 0 1\npermit 3 4 9 4 3 10\nend\n";
@@ -22,7 +25,9 @@ const LONE_TOWN: &str = "siting 1\nkind sum\npoint 2 2 1\npermit 0 0 4 0 4 4 0 4
 
 /// The answer to `CORNER` with no gap.
 const CORNER_ANSWER: &str =
-    "siting answer 1\nsiting 1\nkind sum\npoint 0 0 1\npermit 3 4 9 4 3 10\nend\ngap 0\nbudget 100000\npool 100000\nsite 196608 262144\ncost 327680 327680\nbound 327680\nanswer solved\nopen 0\nleases 1\nroot 196608 262144 19\nB 327680\nend\n";
+    "siting answer 1\nsiting 1\nkind sum\npoint 0 0 1\npermit 3 4 9 4 3 10\nend\ngap 0\n\
+    budget 100000\npool 100000\nsite 196608 262144\ncost 327680 327680\nbound 327680\n\
+    answer solved\nopen 0\nleases 1\nroot 196608 262144 19\nB 327680\nend\n";
 
 /// The words of a line, which single spaces separate.
 fn words_of(alloc: Global, line: &str) -> Result<Argv, Fail> {
@@ -50,20 +55,26 @@ fn sink_of(alloc: Global, chunk: usize, fails: u64) -> Result<MemSink, Fail>
 }
 
 /// The code with which a run ends, and what it writes.
-pub(super) fn run(alloc: Global, line: &str, input: &str) -> Result<(u8, MemSink), Fail> {
+pub(super) fn run_words(
+    rt: &(impl Threads + Wait + Sync),
+    alloc: Global,
+    line: &str,
+    input: &str,
+) -> Result<(u8, MemSink), Fail> {
     let words = words_of(alloc, line)?;
     let mut source = source_of(alloc, input, 0)?;
     let mut sink = sink_of(alloc, 64, 0)?;
-    let status = run_alone(alloc, &words, &mut source, &mut sink);
+    let status = run(rt, alloc, &words, &mut source, &mut sink, &OpenGate);
     Ok((status.code(), sink))
 }
 
 #[test]
 fn a_made_instance_is_written(rt: HostRuntime) -> Result<(), Fail> {
-    let (code, sink) = run(rt.alloc(), "make seed=7 points=1", "")?;
+    let (code, sink) = run_words(&rt, rt.alloc(), "make seed=7 points=1", "")?;
     assert_eq!(rt; code, 0);
     let wanted =
-        "siting 1\nkind sum\npoint 58692 29418 869\npermit 0 0 100000 0 100000 100000 0 100000\nforbid 40000 40000 60000 40000 60000 60000 40000 60000\nend\n";
+        "siting 1\nkind sum\npoint 58692 29418 869\npermit 0 0 100000 0 100000 100000 0 100000\n\
+        forbid 40000 40000 60000 40000 60000 60000 40000 60000\nend\n";
     assert_eq!(rt; sink.bytes(), wanted.as_bytes());
     Ok(())
 }

@@ -14,10 +14,12 @@ use borrow.Author.Differences.{ints}
 answer_of : (i : Instance) (s : Square) (b : Bool) → has_centre i s ≡ b → centre_site_of i s ≡ cond b (Some (centre_of s)) None
 answer_of i s b h = ap (λ t. cond t (Some (centre_of s)) None) h
 
+-- a square of level 0 has no centre site
 pub no_centre-level : (i : Instance) (s : Square) → s.level ≡ 0 → centre_site_of i s ≡ None
 unfolding has_centre
 no_centre-level i s low = answer_of i s false (ap (λ n. nat_lt 0 n && permits i (point_of (centre_of s))) low)
 
+-- nor has one whose centre isn't permitted
 pub no_centre-permitted : (i : Instance) (s : Square) → 0 < s.level → permits i (point_of (centre_of s)) ≡ false → centre_site_of i s ≡ None
 unfolding has_centre
 no_centre-permitted i s above barred = answer_of i s false (ap (λ t. nat_lt 0 s.level && t) barred ∙ and_false (nat_lt 0 s.level))
@@ -26,6 +28,7 @@ no_centre-permitted i s above barred = answer_of i s false (ap (λ t. nat_lt 0 s
     and_false true = refl
     and_false false = refl
 
+-- each other square has its centre
 pub some_centre : (i : Instance) (s : Square) → 0 < s.level → permits i (point_of (centre_of s)) ≡ true → centre_site_of i s ≡ Some (centre_of s)
 unfolding has_centre
 some_centre i s above allowed =
@@ -34,6 +37,7 @@ some_centre i s above allowed =
     below-nat_lt : (m n : ℕ) → m < n → nat_lt m n ≡ true
     below-nat_lt m n h = grind (arith, nat_tests)
 
+-- the centre of a square within the limits is a site
 pub IsSite-centre : (s : Square) → 0 < s.level → IsSquare s → IsSite (centre_of s)
 IsSite-centre s above square =
     let half = two_halves s.level above in

@@ -19,6 +19,7 @@ takes_first cost z y h = ap (λ b. cond b z y) (le-int_le (cost z) (cost y) h)
 takes_second : (cost : Pt → ℤ) (z y : Pt) → cost y <ℤ cost z → cheaper cost z (Some y) ≡ y
 takes_second cost z y h = ap (λ b. cond b z y) (lt-int_le (cost z) (cost y) h)
 
+-- of three sites the same one is the cheapest, whichever two come first
 cheaper-assoc-some : (cost : Pt → ℤ) (b z y : Pt) → cheaper cost b (Some (cheaper cost z (Some y))) ≡ cheaper cost (cheaper cost b (Some z)) (Some y)
 cheaper-assoc-some cost b z y =
     by_lt_z (cost y) (cost z)
@@ -51,6 +52,7 @@ cheaper_of-priced : (cost : Pt → ℤ) (b z : Pt) → cheaper_of cost (Some (pr
 cheaper_of-priced cost b z =
     elim (int_le (cost b) (cost z)) as (λ t. cond t (Some (priced cost b)) (Some (priced cost z)) ≡ Some (priced cost (cond t b z))) [ true ↦ refl | false ↦ refl ]
 
+-- the cheapest of a list, joined one after another from a site with its cost on
 fold-cheaper_of : (cost : Pt → ℤ) (b : Pt) (zs : List Pt) → fold (cheaper_of cost) (Some (priced cost b)) zs ≡ Some (priced cost (cheaper cost b (cheapest cost zs)))
 fold-cheaper_of cost b [] = refl
 fold-cheaper_of cost b (z ∷ zs) =
@@ -58,15 +60,18 @@ fold-cheaper_of cost b (z ∷ zs) =
     ∙ fold-cheaper_of cost (cheaper cost b (Some z)) zs
     ∙ ap (λ y. Some (priced cost y)) (sym (cheaper-assoc cost b z (cheapest cost zs)))
 
+-- and joined from nothing on
 pub fold-cheaper_of-none : (cost : Pt → ℤ) (zs : List Pt) → fold (cheaper_of cost) None zs ≡ price_of cost (cheapest cost zs)
 fold-cheaper_of-none cost [] = refl
 fold-cheaper_of-none cost (z ∷ zs) = fold-cheaper_of cost z zs
 
 -- ---- the first of least cost
+-- only of no site there is no cheapest
 pub cheapest-none : (cost : Pt → ℤ) (zs : List Pt) → cheapest cost zs ≡ None → zs ≡ []
 cheapest-none cost [] h = refl
 cheapest-none cost (z ∷ zs) h = absurd (cc)
 
+-- a site alone is the first of least cost
 first-none : (cost : Pt → ℤ) (y : Pt) (ys : List Pt) → ys ≡ [] → IsFirstOfLeast cost (y ∷ ys) y
 first-none cost y ys none =
     record {
@@ -77,6 +82,7 @@ first-none cost y ys none =
       least = All-same (λ x. cost y ≤ℤ cost x) ys [] none (All-nil (λ x. cost y ≤ℤ cost x));
     }
 
+-- a site that costs less than the one before it stays the first of least cost
 first-below : (cost : Pt → ℤ) (y : Pt) (ys : List Pt) (z : Pt) → cost z <ℤ cost y → IsFirstOfLeast cost ys z → IsFirstOfLeast cost (y ∷ ys) z
 first-below cost y ys z below first =
     record {
@@ -87,6 +93,7 @@ first-below cost y ys z below first =
       least = first.least;
     }
 
+-- one that costs no less gives way to it
 first-above : (cost : Pt → ℤ) (y : Pt) (ys : List Pt) (z : Pt) → cost y ≤ℤ cost z → IsFirstOfLeast cost ys z → IsFirstOfLeast cost (y ∷ ys) y
 first-above cost y ys z above first =
     let P : Pt → Type 0 = λ x. cost y ≤ℤ cost x in
@@ -103,6 +110,7 @@ first-above cost y ys z above first =
     below_too : (a b c : ℤ) → a ≤ℤ b → b <ℤ c → a ≤ℤ c
     below_too a b c h k = omega (arith, ints)
 
+-- of a site and the first of least cost of the rest, the cheaper is that of the whole
 first-some : (cost : Pt → ℤ) (y : Pt) (ys : List Pt) (w : Pt) → IsFirstOfLeast cost ys w → IsFirstOfLeast cost (y ∷ ys) (cheaper cost y (Some w))
 first-some cost y ys w first =
     let P : Pt → Type 0 = λ x. IsFirstOfLeast cost (y ∷ ys) x in
@@ -115,6 +123,7 @@ first-step : (cost : Pt → ℤ) (y : Pt) (ys : List Pt) (o : Option Pt) → che
 first-step cost y ys None none rest = first-none cost y ys (cheapest-none cost ys none)
 first-step cost y ys (Some w) some rest = first-some cost y ys w (rest w refl)
 
+-- the cheapest of a list is its first of least cost
 pub cheapest-first : (cost : Pt → ℤ) (zs : List Pt) (z : Pt) → cheapest cost zs ≡ Some z → IsFirstOfLeast cost zs z
 cheapest-first cost [] z h = absurd (cc)
 cheapest-first cost (y ∷ ys) z h =
@@ -130,6 +139,7 @@ cheaper-either P cost z (Some y) h k = chosen (int_le (cost z) (cost y))
     chosen true = h
     chosen false = k
 
+-- what holds of each site of a list holds of the cheapest
 pub cheapest-all : (P : Pt → Type 0) (cost : Pt → ℤ) (zs : List Pt) → All P zs → MatchOption (cheapest cost zs) ⊤ P
 cheapest-all P cost [] h = tt
 cheapest-all P cost (z ∷ zs) h = cheaper-either P cost z (cheapest cost zs) (All-head P z zs h) (cheapest-all P cost zs (All-tail P z zs h))

@@ -5,11 +5,11 @@ use Rattle.std.specs.Option.{option_map}
 use Rattle.std.specs.List.{fold, filter}
 use Rattle.std.proofs.lemmas.List.Folds.{fold-map}
 use Rattle.std.proofs.lemmas.List.Sums.{fold-append, fold_more}
-use Rattle.std.proofs.lemmas.List.Elements.{All-nil, All-cons, All-head, All-tail, All-append, All-weaker, All-map, All-filter}
+use Rattle.std.proofs.lemmas.List.Elements.{All-nil, All-cons, All-append, All-weaker, All-map, All-filter}
 use Rattle.siting_definitions.specs.Point.{Place, Pt, grid, point_of}
 use Rattle.siting_definitions.specs.Polygon.{vertex, origin}
-use Rattle.site_model.proofs.Vertices.{vertices-more}
-use Rattle.siting_definitions.specs.Instance.{Instance, IsInstance, IsPlace, IsPolygon}
+use Rattle.site_model.proofs.Vertices.{places_of, vertices-more}
+use Rattle.siting_definitions.specs.Instance.{Instance, IsInstance, IsPlace}
 use Rattle.siting_definitions.specs.Permitted.{permits}
 use Rattle.siting_definitions.specs.Bounds.{upper_of}
 use Rattle.siting_definitions.specs.Sites.{candidates, opening_of, vertices}
@@ -36,10 +36,12 @@ vertices-cheapest i =
     ∙ fold-cheaper_site i None (map grid (vertices i.permitted ++ vertices i.forbidden))
     ∙ fold-cheaper_of-none (upper_of i) (candidates i)
 
+-- the opening is the first candidate of least upper cost
 pub opening-first : (i : Instance) (z : Pt) → opening_of i ≡ Some z → IsFirstOfLeast (upper_of i) (candidates i) z
 unfolding opening_of
 opening-first i z h = cheapest-first (upper_of i) (candidates i) z h
 
+-- where there is none, there is no candidate
 pub opening-none : (i : Instance) → opening_of i ≡ None → candidates i ≡ []
 unfolding opening_of
 opening-none i h = cheapest-none (upper_of i) (candidates i) h
@@ -53,6 +55,7 @@ filter-passes p (z ∷ zs) = filtered p z zs (p z) refl (filter-passes p zs)
     filtered p z zs true h all = All-cons (λ y. p y ≡ true) z (filter p zs) h all
     filtered p z zs false h all = all
 
+-- the opening is permitted
 opening-permitted : (i : Instance) → MatchOption (opening_of i) ⊤ (λ z. permits i (point_of z) ≡ true)
 unfolding opening_of
 opening-permitted i =
@@ -68,11 +71,7 @@ grid-vertex : (v : Place) → IsPlace v → IsVertex (grid v)
 unfolding IsVertex
 grid-vertex v h = record { x = omega (arith, ints, h.x); y = omega (arith, ints, h.y); diagonal = omega arith }
 
-vertices-all : (vss : List (List Place)) → All IsPolygon vss → All IsPlace (vertices vss)
-vertices-all [] h = All-nil IsPlace
-vertices-all (vs ∷ vss) h =
-    All-append IsPlace vs (vertices vss) (All-head IsPolygon vs vss h).places (vertices-all vss (All-tail IsPolygon vs vss h))
-
+-- the opening is a vertex of a polygon
 opening-vertex : (i : Instance) → IsInstance i → MatchOption (opening_of i) ⊤ IsVertex
 unfolding opening_of
 opening-vertex i lawful =
@@ -81,7 +80,7 @@ opening-vertex i lawful =
     (All-filter (λ z. permits i (point_of z)) IsVertex (map grid places)
     (All-map IsVertex grid places
     (All-weaker IsPlace (λ v. IsVertex (grid v)) grid-vertex places
-    (All-append IsPlace (vertices i.permitted) (vertices i.forbidden) (vertices-all i.permitted lawful.permitted) (vertices-all i.forbidden lawful.forbidden)))))
+    (All-append IsPlace (vertices i.permitted) (vertices i.forbidden) (places_of i.permitted lawful.permitted) (places_of i.forbidden lawful.forbidden)))))
 
 vertex_cost-small : (i : Instance) (z : Pt) → IsInstance i → IsVertex z → unsigned_abs (upper_of i z) ≤ 2 ^ 62
 unfolding IsVertex
@@ -91,6 +90,7 @@ vertex_cost-small i z lawful vertex = omega (arith, upper_of-size i z 6553600000
 abbrev with_cost : Instance → Option Pt → Option (Pt × ℤ)
 with_cost i o = option_map (λ z. (z, upper_of i z)) o
 
+-- from the opening with its cost, as the code has them: the site
 pub site-answer : (i : Instance) (r : Option (Pt × ℤ)) (o : Option Pt) → r ≡ with_cost i o → option_map (λ (b : Pt × ℤ). b.0) r ≡ o
 site-answer i r o same = ap (option_map (λ (b : Pt × ℤ). b.0)) same ∙ of_pair i o
   where
@@ -98,6 +98,7 @@ site-answer i r o same = ap (option_map (λ (b : Pt × ℤ). b.0)) same ∙ of_p
     of_pair i None = refl
     of_pair i (Some z) = refl
 
+-- its cost
 pub cost-answer : (i : Instance) (r : Option (Pt × ℤ)) (o : Option Pt) → r ≡ with_cost i o → option_map (λ (b : Pt × ℤ). b.1) r ≡ option_map (upper_of i) o
 cost-answer i r o same = ap (option_map (λ (b : Pt × ℤ). b.1)) same ∙ of_pair i o
   where
@@ -110,11 +111,13 @@ of_opening : (i : Instance) (P : Pt × ℤ → Type 0) (o : Option Pt) → Match
 of_opening i P None h = tt
 of_opening i P (Some z) h = h
 
+-- that it is permitted
 pub permitted-answer : (i : Instance) (r : Option (Pt × ℤ)) → r ≡ with_cost i (opening_of i) → IfSome r (λ (b : Pt × ℤ). IsTrue (permits i (point_of b.0)))
 permitted-answer i r same =
     let P : Pt × ℤ → Type 0 = λ b. IsTrue (permits i (point_of b.0)) in
     subst (λ q. IfSome q P) (sym same) (of_opening i P (opening_of i) (opening-permitted i))
 
+-- and how great the cost can be
 pub small-answer : (i : Instance) (r : Option (Pt × ℤ)) → IsInstance i → r ≡ with_cost i (opening_of i) → IfSome r (λ (b : Pt × ℤ). unsigned_abs b.1 ≤ 2 ^ 62)
 small-answer i r lawful same =
     let P : Pt × ℤ → Type 0 = λ b. unsigned_abs b.1 ≤ 2 ^ 62 in
@@ -140,9 +143,11 @@ vertex_more i first found next vs k z within before at now =
     ∙ ap (cheaper_site i (fold (cheaper_vertex i) first (take k vs))) at
     ∙ sym (fold_more (cheaper_vertex i) first vs k origin within)
 
+-- when all vertices of a polygon were tried
 pub vertex_all : (i : Instance) (first found : Option (Pt × ℤ)) (vs : List Place) (k : ℕ) → length vs ≤ k → found ≡ fold (cheaper_vertex i) first (take k vs) → found ≡ fold (cheaper_vertex i) first vs
 vertex_all i first found vs k whole before = before ∙ ap (fold (cheaper_vertex i) first) (take_all k vs whole)
 
+-- one polygon more
 pub polygon_more : (i : Instance) (first found next : Option (Pt × ℤ)) (ps : List (List Place)) (k : ℕ) (p : List Place) → k < length ps → found ≡ fold (cheaper_vertex i) first (vertices (take k ps)) → p ≡ get_or ps k p → next ≡ fold (cheaper_vertex i) found p → next ≡ fold (cheaper_vertex i) first (vertices (take (k + 1) ps))
 polygon_more i first found next ps k p within before at now =
     now
@@ -151,5 +156,6 @@ polygon_more i first found next ps k p within before at now =
     ∙ ap (λ us. fold (cheaper_vertex i) first (vertices (take k ps) ++ us)) at
     ∙ ap (fold (cheaper_vertex i) first) (sym (vertices-more ps k p within))
 
+-- when all polygons were tried
 pub polygon_all : (i : Instance) (first found : Option (Pt × ℤ)) (ps : List (List Place)) (k : ℕ) → length ps ≤ k → found ≡ fold (cheaper_vertex i) first (vertices (take k ps)) → found ≡ fold (cheaper_vertex i) first (vertices ps)
 polygon_all i first found ps k whole before = before ∙ ap (λ qs. fold (cheaper_vertex i) first (vertices qs)) (take_all k ps whole)

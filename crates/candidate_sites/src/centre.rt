@@ -12,8 +12,8 @@ use dyadic_square::Square;
 use objectives::cost_of;
 use site_model::{Instance, Site};
 
-/// The centre of a square with its upper cost, in cost units: none exactly where the square's level is 0 or its centre isn't
-/// permitted.
+/// The centre of a square with its upper cost, in cost units: none exactly where the square's level
+/// is 0 or its centre isn't permitted.
 pub fn centre_site(instance: &Instance, sq: Square) -> Option<(Site, i64)>
     ensures site { option_map (λ (b : points.Pt × ℤ). b.0) result ≡ centre_site_of instance.now sq }
     ensures cost { option_map (λ (b : points.Pt × ℤ). b.1) result ≡ centre_cost instance.now sq }

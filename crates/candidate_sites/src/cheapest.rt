@@ -1,6 +1,7 @@
 //! The opening.
 
-ghost use Rattle.std.specs.Prelude.{◌≡◌, ℤ, ◌≤◌, ◌^◌, IsTrue, IfSome, fold, option_map, unsigned_abs};
+ghost use Rattle.std.specs.Prelude.{◌≡◌, ℤ, ◌≤◌, ◌^◌, IsTrue, IfSome};
+ghost use Rattle.std.specs.Prelude.{fold, option_map, unsigned_abs};
 ghost use Rattle.siting_definitions.specs.Point.{Pt, point_of};
 ghost use Rattle.siting_definitions.specs.Permitted.{permits};
 ghost use Rattle.siting_definitions.specs.Answer.{IsSite};
@@ -12,8 +13,8 @@ use convex_region::Polygon;
 use objectives::cost_of;
 use site_model::{Instance, Site};
 
-/// The permitted vertex of least upper cost, over permitted polygons and then forbidden ones, with that cost, in cost units:
-/// the first one wins a tie. None exactly where no vertex is permitted.
+/// The permitted vertex of least upper cost, over permitted polygons and then forbidden ones, with
+/// that cost, in cost units: the first one wins a tie. None exactly where no vertex is permitted.
 pub fn opening(instance: &Instance) -> Option<(Site, i64)>
     ensures site { option_map (λ (b : Pt × ℤ). b.0) result ≡ opening_of instance.now }
     ensures cost { option_map (λ (b : Pt × ℤ). b.1) result ≡ opening_cost instance.now }

@@ -1,4 +1,5 @@
-//! The sites that a search tries: the cheapest permitted vertex of a polygon, and the centre of a square.
+//! The sites that a search tries: the cheapest permitted vertex of a polygon,
+//! and the centre of a square.
 #![tactic(auto)]
 
 mod centre;

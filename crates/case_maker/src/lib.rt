@@ -1,4 +1,5 @@
-//! Made instances: from a seed, instances of any size for tests and trials, and one small instance for tests.
+//! Made instances: from a seed, instances of any size for tests and trials, and one
+//! small instance for tests.
 #![tactic(auto)]
 
 mod instance;

@@ -1,6 +1,6 @@
 -- There is no fault exactly where what is asked holds: of a head, of a mark, and at the last line.
 use Rattle.std.proofs.Common.{◌≡◌, ℕ, ◌+◌, ◌*◌, ◌<◌, ◌≤◌, ◌==◌, leb, ℤ, ◌+ℤ◌, ◌<ℤ◌, Bool, true, false, not, ◌||◌, List, [], ◌∷◌, Option, None, Some, Decides, refl, sym, ap, ◌∙◌, subst, ◌⊎◌, inl, inr, arith}
-use Rattle.std.proofs.lemmas.Bool.{cases_Bool, and_parts, cond-true, cond-false, true≢false, false≢true, not-true, not_from_false}
+use Rattle.std.proofs.lemmas.Bool.{cases_Bool, and_parts, true≢false, false≢true, not-true, not_from_false}
 use Rattle.std.proofs.lemmas.Bool.Decides.{Decides-eqb, Decides-int_eq, Decides-and, Decides-like, Decides-ltb, nat_tests}
 use Rattle.std.specs.Prelude.{⊤, ◌↔◌, IsTrue, slice_get, MatchOption, int_le, is_some}
 use Rattle.std.specs.Bool.{OnTrue}

@@ -1,4 +1,5 @@
 mod FaultLemmas
+mod ReadLemmas
 mod StepLemmas
 mod CheckLemmas
 mod TreeLemmas

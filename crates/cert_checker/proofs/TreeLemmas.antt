@@ -1,12 +1,11 @@
 -- Marks that are read in preorder are those of a tree.
-use Rattle.std.proofs.Common.{◌≡◌, ℤ, Bool, true, false, List, [], ◌∷◌, Option, refl, sym, ap, ◌∙◌, subst}
+use Rattle.std.proofs.Common.{◌≡◌, ℤ, Bool, List, [], ◌∷◌, Option, refl, sym, subst}
 use Rattle.std.specs.Prelude.{⊤}
 use Rattle.siting_definitions.specs.declared.Mark.{Mark}
-use Rattle.siting_definitions.specs.declared.Mark.TheVariants.{Split, Shut, Bounded, Floor as FloorMark, Left}
 use Rattle.siting_definitions.specs.Instance.{Instance}
 use Rattle.siting_definitions.specs.Square.{Square}
 use Rattle.siting_definitions.specs.Tree.{Tree, TreeSquare, preorder}
-use Rattle.siting_definitions.specs.Marks.{is_split, SplitFits, MarkFits, MarksFit, AreMarks}
+use Rattle.siting_definitions.specs.Marks.{is_split, MarkFits, MarksFit, AreMarks}
 use Rattle.dyadic_square.specs.Walk.{Walks, coming_after}
 use Rattle.dyadic_square.proofs.Walks.{walk-preorder, tree-walk}
 use Rattle.answer_model.proofs.NodesLemmas.{same_split}

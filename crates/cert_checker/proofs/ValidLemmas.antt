@@ -17,7 +17,7 @@ use Rattle.cert_checker.specs.declared.faults.CheckError.{CheckError}
 use Rattle.cert_checker.specs.declared.checking.Accepted.{Accepted}
 use Rattle.cert_checker.specs.Faults.{head_fault_of}
 use Rattle.cert_checker.specs.Checking.{unless_fault, read_ok, accepted_of, items_of, after_head, checking, start_of}
-use Rattle.cert_checker.specs.Steps.{after_root}
+use Rattle.cert_checker.specs.CheckReading.{after_root}
 use Rattle.cert_checker.proofs.FaultLemmas.{head-none}
 use Rattle.cert_checker.proofs.TreeLemmas.{reads-tree, tree-reads}
 use Rattle.cert_checker.proofs.ItemLemmas.{mark_lines, unless-parts, accepted-lines, lines-accepted}

@@ -111,7 +111,11 @@ items_of h p r (line ∷ lines) =
 abbrev pub after_head : Head → Coming → Result Accepted CheckError
 after_head h r = unless_fault (head_fault_of h) (items_of h (start_of h) r r.input.lines)
 
+-- what a check says of an answer that is still to come
+abbrev pub check_in : Coming → Result Accepted CheckError
+check_in r = read_ok (head_reading r) (λ h. after_head h.0 h.1)
+
 -- What a check of these bytes, to their end, says: the answer whose text they are is accepted where
 -- it is valid, and else this is their first fault.
 unfoldable pub checking : List ℕ → Result Accepted CheckError
-checking bytes = read_ok (head_reading (coming_of bytes)) (λ h. after_head h.0 h.1)
+checking bytes = check_in (coming_of bytes)

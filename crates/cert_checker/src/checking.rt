@@ -1,17 +1,19 @@
 //! Checking an answer.
 
-ghost use Rattle.std.specs.Prelude.{◌≡◌, ◌≤◌, ◌∷◌, [], IfSome, IsErrOf, OnOk};
+ghost use Rattle.std.specs.Prelude.{◌≡◌, ◌≤◌, ◌∷◌, [], IfSome, IsErrOf, IsTrue, OnOk};
 ghost use Rattle.std.specs.Result.{result_err};
 ghost use Rattle.port_io.specs.Faults.{Rose};
 ghost use Rattle.siting_definitions.specs.Sites.{opening_cost};
 ghost use Rattle.siting_definitions.specs.Marks as marks;
 ghost use Rattle.siting_definitions.specs.Marks.{tally_of};
-ghost use Rattle.certificate.specs.ReaderView.{coming, source_of, faults_of};
+ghost use Rattle.certificate.specs.Beginnings.{start_of};
+ghost use Rattle.certificate.specs.ReaderView.{source_of, stream_of};
 ghost use Rattle.answer_model.specs.Tally.{AreSmall, tally_sum};
 ghost use Rattle.cert_checker.specs.Checking as checks;
 ghost use Rattle.cert_checker.specs.Checking.{checking, node_fault};
 ghost use Rattle.cert_checker.specs.Walking.{squares_after};
-ghost use Rattle.cert_checker.specs.Steps.{ChecksTo, ReadsMarks};
+ghost use Rattle.cert_checker.specs.CheckReading.{CheckDone, CheckRead, MarksRead, UnlessReadFault};
+ghost use Rattle.cert_checker.specs.Steps.{ChecksTo};
 
 use crate::end::last_fault;
 use crate::faults::{CheckError, CheckFault, TREE_LONG, fault_at};
@@ -41,15 +43,34 @@ pub struct Accepted {
     pub nodes: u64,
 }
 
-/// Checks the text of an answer, which is read as a stream: `Ok` exactly where it is the text of a valid answer, with nothing after
-/// it, and else its first fault. `ReadFault` comes only where the source's count of faults rose in this call, and `TooLong` where
-/// 2^30 bytes came without a fault, and more. Only the head takes memory.
+/// Checks the text of an answer, which is read as a stream: `Ok` exactly where it is the text of a
+/// valid answer, with nothing after it, and else its first fault.
+///
+/// A fault is found as soon as its line was read: no more is read than a piece of 4,096 bytes, and
+/// what comes after it is no matter. `ReadFault` comes only where the source failed before a fault
+/// came, and the source's count of faults then rose in this call; `TooLong` where 2^30 bytes came
+/// without a fault, and more. Only the head takes memory.
 pub fn check<S: Source>(alloc: Global, source: &mut S) -> Result<Accepted, CheckError>
     ensures answers { IfSome (S.left source.old)
         (λ bytes. ChecksTo (checking bytes) (S.left source.new) result) }
     ensures read_fault { IsErrOf result CheckError.ReadFault
         → Rose (S.faults source.old) (S.faults source.new) }
     ensures later { S.faults source.old ≤ S.faults source.new }
+
+    // The bytes that were read settle the answer, and no more of them were read than that took.
+    ensures read { CheckRead (S.left source.old) (S.left source.new) result }
+
+    // Over a strict source no read failed where the answer isn't `ReadFault`.
+    ensures heard { IsTrue S.is_strict
+        → UnlessReadFault result (S.faults source.new ≡ S.faults source.old) }
+{
+    check_text(alloc, source)
+}
+
+/// Reads the text line by line, and checks each line as it comes.
+fn check_text<S: Source>(alloc: Global, source: &mut S) -> Result<Accepted, CheckError>
+    ensures { CheckDone (start_of (S.left source.old) (S.faults source.old) S.is_strict)
+        (start_of (S.left source.new) (S.faults source.new) S.is_strict) result }
 {
     let mut reader = AnswerReader::new(source);
     let head = reader.read_head(alloc)?;
@@ -79,11 +100,8 @@ fn read_marks<S: Source>(
 ) -> Result<Tally, CheckError>
     requires { opening ≡ opening_cost head.now.instance }
     ensures same { source_of reader.new ≡ source_of reader.old }
-    ensures reads { IfSome (coming S.left reader.old)
-        (λ before. ReadsMarks head.now before (coming S.left reader.new) result) }
-    ensures read_fault { IsErrOf result CheckError.ReadFault
-        → Rose (faults_of S.faults reader.old) (faults_of S.faults reader.new) }
-    ensures later { faults_of S.faults reader.old ≤ faults_of S.faults reader.new }
+    ensures reads { MarksRead head.now (stream_of S.left S.faults S.is_strict reader.old)
+        (stream_of S.left S.faults S.is_strict reader.new) result }
 {
     let mut walk = Walk::begin(head.instance.root());
     let mut tally = Tally::new();
@@ -103,7 +121,7 @@ fn read_marks<S: Source>(
             }
         }
     }
-    // Not reached where the source tells its bytes, since each line has one at least.
+    // Not reached, since each line has a byte at least.
     Err(CheckError::TooLong)
 }
 

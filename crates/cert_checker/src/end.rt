@@ -12,8 +12,8 @@ use crate::faults::{
 use crate::walk::Walk;
 use answer_model::{Head, Tally, Word};
 
-/// The first fault of the last line, with the squares to come and the tally of all marks: a square is to come, or it is that of
-/// `end_fault`. None exactly where there is none.
+/// The first fault of the last line, with the squares to come and the tally of all marks: a square
+/// is to come, or it is that of `end_fault`. None exactly where there is none.
 pub fn last_fault(head: &Head, walk: &Walk, tally: &Tally, line: u64) -> Option<CheckFault>
     ensures { result ≡ checks.last_fault head.now walk.now tally.now line }
 {
@@ -23,8 +23,9 @@ pub fn last_fault(head: &Head, walk: &Walk, tally: &Tally, line: u64) -> Option<
     end_fault(head, tally, line)
 }
 
-/// The first fault at the last line, with the tally of all marks: the bound isn't the least of the leaves, the word isn't the one
-/// that the marks call for, or the leases or the open squares don't fit. None exactly where there is none.
+/// The first fault at the last line, with the tally of all marks: the bound isn't the least of the
+/// leaves, the word isn't the one that the marks call for, or the leases or the open squares don't
+/// fit. None exactly where there is none.
 #[tactic(auto, unfolding(crate::specs::Faults::end_fault_of))]
 pub fn end_fault(head: &Head, tally: &Tally, line: u64) -> Option<CheckFault>
     ensures { result ≡ end_fault_of head.now tally.now line }
@@ -98,7 +99,8 @@ fn open_fits(head: &Head, tally: &Tally) -> bool
     }
 }
 
-/// Whether so many open squares fill the pool, so that there was no room for a split, and are no more than the leaves.
+/// Whether so many open squares fill the pool, so that there was no room for a split, and are no
+/// more than the leaves.
 fn is_full(open_count: u32, pool: u32, leaves: u64) -> bool
     ensures { result ≡ (nat_le 1 open_count
         && (nat_le open_count pool

@@ -14,16 +14,18 @@ use candidate_sites::opening;
 use objectives::cost_of;
 use site_model::{Instance, Site};
 
-/// The first fault of a head that is of its form, with its line: its site isn't permitted, its costs aren't those of the site,
-/// or the opening costs less than the site. None exactly where there is none.
+/// The first fault of a head that is of its form, with its line: its site isn't permitted, its
+/// costs aren't those of the site, or the opening costs less than the site. None exactly where
+/// there is none.
 pub fn head_fault(head: &Head) -> Option<CheckFault>
     ensures { result ≡ head_fault_of head.now }
 {
     opening_or_fault(head).err()
 }
 
-/// The upper cost of the instance's opening, in cost units, if there is one; or the first fault of the head. To find the opening
-/// takes long, so it is looked for only where the site has no fault of its own.
+/// The upper cost of the instance's opening, in cost units, if there is one; or the first fault of
+/// the head. To find the opening takes long, so it is looked for only where the site has no fault
+/// of its own.
 #[tactic(auto, unfolding(crate::specs::Faults::head_fault_of))]
 pub fn opening_or_fault(head: &Head) -> Result<Option<i64>, CheckFault>
     ensures opening { IfOk result (λ opening. opening ≡ sites.opening_cost head.now.instance) }

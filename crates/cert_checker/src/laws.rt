@@ -15,12 +15,14 @@ ghost use Rattle.cert_checker.specs.declared.checking.Accepted.{Accepted};
 ghost use Rattle.cert_checker.specs.Faults.{head_fault_of, mark_fault_of, end_fault_of};
 ghost use Rattle.cert_checker.specs.Checking.{Progress, accepted_of, checking, items_of, node_item, take_marks};
 
-/// A head has no fault exactly where its site is permitted, with its own costs, and costs no more than the opening.
+/// A head has no fault exactly where its site is permitted, with its own costs, and costs no more
+/// than the opening.
 pub fn heads_without_a_fault_fit()
     ensures { (h : Head) → (head_fault_of h ≡ None) ↔ HeadFits h }
 {}
 
-/// A mark has no fault exactly where it is a split that was called for, or the finished mark of a leaf.
+/// A mark has no fault exactly where it is a split that was called for, or the finished mark of a
+/// leaf.
 pub fn marks_without_a_fault_fit()
     ensures { (h : Head) (s : Square) (m : Mark) (line : ℕ)
         → (mark_fault_of h s m line ≡ None)
@@ -28,12 +30,14 @@ pub fn marks_without_a_fault_fit()
         (record { square = s; is_split = is_split m }) m }
 {}
 
-/// The last line has no fault exactly where the bound, the word and the counts are those of the marks.
+/// The last line has no fault exactly where the bound, the word and the counts are those of the
+/// marks.
 pub fn ends_without_a_fault_fit()
     ensures { (h : Head) (t : Tally) (line : ℕ) → (end_fault_of h t line ≡ None) ↔ EndFits h t }
 {}
 
-/// A text is accepted exactly where it is that of a valid answer, and what is then said of it is what the answer says.
+/// A text is accepted exactly where it is that of a valid answer, and what is then said of it is
+/// what the answer says.
 pub fn accepted_exactly_where_valid()
     ensures accepted { (bytes : List ℕ) (x : Accepted) → checking bytes ≡ Ok x
         → (a : Answer) × IsValid a × (bytes ≡ answer_text a)
@@ -42,9 +46,9 @@ pub fn accepted_exactly_where_valid()
         → checking (answer_text a) ≡ Ok (accepted_of a.head (tally_of a.marks)) }
 {}
 
-/// A check of node lines that are cut in two is one of the first part, and then, from the squares, the tally and the line that
-/// it leaves, one of the second. The tally that it leaves is that of the marks. Where node lines come first, the rest of a check
-/// begins where they leave it.
+/// A check of node lines that are cut in two is one of the first part, and then, from the squares,
+/// the tally and the line that it leaves, one of the second. The tally that it leaves is that of
+/// the marks. Where node lines come first, the rest of a check begins where they leave it.
 pub fn a_check_is_cut_in_two()
     ensures marks { (h : Head) (line : ℕ) (ms ns : List Mark) (p : Progress)
         → take_marks h line (ms ++ ns) p

@@ -1,4 +1,5 @@
-//! The checker: whether a text is that of a valid answer, and which fault it has first where it isn't.
+//! The checker: whether a text is that of a valid answer, and which fault it has first where it
+//! isn't.
 #![tactic(auto)]
 
 mod checking;

@@ -21,9 +21,10 @@ use objectives::{fine, reaches};
 use site_model::Instance;
 use siting_definitions::Mark;
 
-/// The first fault of the mark of a square, in this line: a mark other than X of a square that is excluded or an X of one that
-/// isn't, a split that wasn't called for, a bound other than the square's fine bound, or a letter that isn't the right one for it.
-/// None exactly where there is none. `opening` is the upper cost of the instance's opening, in cost units, if there is one.
+/// The first fault of the mark of a square, in this line: a mark other than X of a square that is
+/// excluded or an X of one that isn't, a split that wasn't called for, a bound other than the
+/// square's fine bound, or a letter that isn't the right one for it. None exactly where there is
+/// none. `opening` is the upper cost of the instance's opening, in cost units, if there is one.
 #[tactic(auto, unfolding(crate::specs::Faults::mark_fault_of))]
 pub fn mark_fault(
     head: &Head,
@@ -91,8 +92,8 @@ fn is_uncalled(head: &Head, opening: Option<i64>, square: Square, seen: Option<i
     }
 }
 
-/// Whether this number of the incumbent can't have been seen, or settled the square, or the opening or the centre costs less.
-/// The costs that take long come last.
+/// Whether this number of the incumbent can't have been seen, or settled the square, or the opening
+/// or the centre costs less. The costs that take long come last.
 fn is_wrongly_seen(head: &Head, opening: Option<i64>, square: Square, seen: i64) -> bool
     requires { opening ≡ opening_cost head.now.instance }
     ensures { let i = head.now.instance in

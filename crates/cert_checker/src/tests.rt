@@ -5,11 +5,10 @@ ghost use Rattle.std.specs.Prelude.{◌<◌};
 use super::*;
 use crate::head::opening_cost;
 use answer_model::{Head, Word};
-use convex_region::Polygon;
+use case_maker::one_town;
 use dyadic_square::Square;
-use exact_geometry::Place;
 use port_io::MemSource;
-use site_model::{DemandPt, Instance, Kind, Site};
+use site_model::Site;
 use siting_definitions::Mark;
 use std::alloc::Global;
 use std::process::Abort;
@@ -262,19 +261,9 @@ fn a_walk_goes_in_preorder(rt: HostRuntime) {
 }
 
 /// The head of an answer whose root is left open.
-#[tactic(auto, unfolding(siting_definitions::specs::Instance::weight))]
 fn head(rt: &impl Abort, alloc: Global) -> Head {
-    let corners = [
-        Place::of(0, 0),
-        Place::of(4, 0),
-        Place::of(4, 4),
-        Place::of(0, 4),
-    ];
-    let square = Polygon::build(alloc, &corners).expect(rt, "a polygon");
-    let points = Vec::from_array(alloc, [DemandPt::of(2, 2, 1, None)]).expect(rt, "memory");
-    let permitted = Vec::from_array(alloc, [square]).expect(rt, "memory");
     Head {
-        instance: Instance::build(Kind::Sum, points, permitted, Vec::new(alloc)),
+        instance: one_town(alloc).expect(rt, "memory"),
         gap: 185,
         budget: 0,
         pool: 100_000,

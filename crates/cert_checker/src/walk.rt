@@ -6,8 +6,8 @@ ghost use Rattle.cert_checker.specs.Walking.{AreFew, CanStep, squares_after};
 use dyadic_square::Square;
 use std::marker::Model;
 
-/// The squares of a tree that are still to come, as its squares are read in preorder. Its stack is fixed: a tree has 37
-/// levels at most, so at most 112 squares are to come.
+/// The squares of a tree that are still to come, as its squares are read in preorder. Its stack is
+/// fixed: a tree has 37 levels at most, so at most 112 squares are to come.
 #[derive(Drop)]
 pub struct Walk {
     stack: [Square; 120],

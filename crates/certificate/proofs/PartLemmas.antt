@@ -1,21 +1,20 @@
 -- The lines of the instance.
-use Rattle.std.proofs.Common.{◌≡◌, ℕ, suc, ◌+◌, ◌≤◌, Bool, true, false, cond, List, [], ◌∷◌, ◌++◌, length, refl, sym, ap, subst, ◌∙◌, inl, arith, append_assoc, append-nil, Option, Some, None, Result, Ok, Err, bytes_eq, codes, nat_le}
+use Rattle.std.proofs.Common.{◌≡◌, ℕ, suc, ◌+◌, Bool, true, false, cond, List, [], ◌∷◌, ◌++◌, length, refl, sym, ap, subst, ◌∙◌, inl, arith, append_assoc, append-nil, Option, Some, None, Result, Ok, Err, bytes_eq, codes, nat_le}
 use Rattle.std.specs.Prelude.{⊤}
 use Rattle.std.specs.Result.{IsErrAnd}
 use Rattle.std.proofs.lemmas.List.{length-append}
 use Rattle.siting_definitions.specs.Instance.{Instance}
 use Rattle.instance_text.specs.Reading.{reading, and_then}
 use Rattle.line_stream.specs.declared.lines.LineError.{LineError}
-use Rattle.line_stream.specs.declared.lines.LineError.TheVariants.{TooLong as LineTooLong}
 use Rattle.line_stream.specs.Input.{bytes_of}
 use Rattle.line_stream.specs.Coming.{Coming, next_line}
-use Rattle.line_stream.specs.Stream.{Stream, coming_in, IsNeeded}
-use Rattle.line_stream.specs.LineReading.{after_front, InLine, IsLine, IsStopped, PieceRead}
-use Rattle.line_stream.proofs.LineLemmas.{Consumes-none, after_front-nil, in_line-then, in_line-ends, in_line-fails}
+use Rattle.line_stream.specs.Stream.{Stream, coming_in}
+use Rattle.line_stream.specs.LineReading.{after_front, InLine, IsLine, PieceRead}
+use Rattle.line_stream.proofs.LineLemmas.{Consumes-none, calm-none, after_front-nil, in_line-then, in_line-ends, in_line-fails}
 use Rattle.certificate.specs.declared.reader.AnswerError.{AnswerError}
 use Rattle.certificate.specs.declared.reader.AnswerError.TheVariants.{Form, Instance as BadInstance, TooLong, ReadFault, NoMemory}
 use Rattle.certificate.specs.HeadReading.{answer_limit, answer_error, in_answer, answer_line, missing, add_line, part_of, if_canonical, or_bad_instance, instance_in, instance_part}
-use Rattle.certificate.specs.AnswerReading.{ReadWith, ReadInMemory}
+use Rattle.certificate.specs.AnswerReading.{ReadInMemory}
 use Rattle.certificate.specs.PartReading.{part_limit, kept_part, part_with, Grows, lines_in, part_reading, after_part, LineInPart, NoLine, RestRead, PartLineRead, PartRead, Canonical}
 use Rattle.certificate.proofs.ReadLemmas.{same_error, IsThrough, through_then, through_error, through_value, through_no_memory, error_also, needed_also, read_also, read_then, read_stop, read_none, settled_here, memory_here, line_read, line_stopped, line_needed}
 use Rattle.certificate.proofs.ShortLemmas.{not_word}
@@ -24,9 +23,11 @@ use Rattle.certificate.proofs.ShortLemmas.{not_word}
 grows-none : (part : Option (List ℕ)) → Grows part part []
 grows-none part before is = is ∙ ap kept_part (sym (append-nil before))
 
+-- bytes that came after bytes
 grows-then : (a b c : Option (List ℕ)) (x y : List ℕ) → Grows a b x → Grows b c y → Grows a c (x ++ y)
 grows-then a b c x y f g before is = g (before ++ x) (f before is) ∙ ap kept_part (append_assoc before x y)
 
+-- what is kept of bytes that come after others
 kept_more : (before bytes : List ℕ) → part_with (kept_part before) bytes ≡ kept_part (before ++ bytes)
 kept_more before bytes = by_test (nat_le (length before) part_limit) (nat_le (length (before ++ bytes)) part_limit) refl refl
   where
@@ -38,6 +39,7 @@ kept_more before bytes = by_test (nat_le (length before) part_limit) (nat_le (le
         let no : ⊥ = grind arith in
         absurd no
 
+-- a part to which bytes were added
 grows-add : (part now : Option (List ℕ)) (bytes : List ℕ) → now ≡ part_with part bytes → Grows part now bytes
 grows-add part now bytes is before kept = is ∙ (ap (λ p. part_with p bytes) kept ∙ kept_more before bytes)
 
@@ -48,6 +50,7 @@ pub record InRest (before after : Stream) (part now : Option (List ℕ)) : Type 
   pub in_line : InLine answer_limit before after front
   pub grows : Grows part now front
 
+-- nothing of the line was read yet
 pub in_rest-start : (a : Stream) (part : Option (List ℕ)) → InRest a a part part
 in_rest-start a part = record {
   front = [];
@@ -56,11 +59,12 @@ in_rest-start a part = record {
     consumes = Consumes-none a.left;
     needed = inl refl;
     reads = λ more rest. sym (after_front-nil (next_line (coming_in more answer_limit a.lines rest)));
-    later = omega arith;
+    calm = calm-none a;
   };
   grows = grows-none part;
 }
 
+-- a piece more of the line was read
 pub in_rest-next : (a b c : Stream) (part now then : Option (List ℕ)) → InRest a b part now → PieceRead answer_limit b c (Ok false) → then ≡ part_with now c.lines.kept → InRest a c part then
 in_rest-next a b c part now then h piece is = record {
   front = h.front ++ c.lines.kept;
@@ -68,6 +72,7 @@ in_rest-next a b c part now then h piece is = record {
   grows = grows-then part now then h.front c.lines.kept h.grows (grows-add now then c.lines.kept is);
 }
 
+-- the last piece of the line was read, and its line feed is kept
 pub in_rest-ends : (a b c : Stream) (part now then last : Option (List ℕ)) → InRest a b part now → PieceRead answer_limit b c (Ok true) → then ≡ part_with now c.lines.kept → last ≡ part_with then (10 ∷ [])
     → (line : List ℕ) × LineInPart a c part last line
 in_rest-ends a b c part now then last h piece is feed = (
@@ -90,7 +95,7 @@ line_through a b front h = record {
   needed = line_needed next_line a.lines h.got h.needed;
   same = λ more rest. ap in_answer (h.reads more rest) ∙ in_answer-front front (next_line (coming_in more answer_limit b.lines rest));
   errors = λ e. refl;
-  rises = h.later;
+  calm = h.calm;
 }
 
 -- after a line nothing is wanted
@@ -101,21 +106,20 @@ line_done a b line h = record {
   needed = line_needed next_line a.lines h.got h.needed;
   same = λ more rest. ap in_answer (h.reads more rest);
   errors = λ e. refl;
-  rises = h.later;
+  calm = h.calm;
 }
 
+-- memory was wanted within a line
 pub line_no_memory : (a b : Stream) (front : List ℕ) → InLine answer_limit a b front → NoLine a b NoMemory
 line_no_memory a b front h = through_no_memory true answer_line answer_line (after_part front) a b b (line_through a b front h)
 
-pub piece_no_memory : (a b : Stream) (whole : Bool) → PieceRead answer_limit a b (Ok whole) → NoLine a b NoMemory
-piece_no_memory a b true h = through_no_memory true answer_line (λ r. Ok (b.lines.kept, r)) (λ r. r) a b b (line_done a b b.lines.kept h)
-piece_no_memory a b false h = line_no_memory a b b.lines.kept h
-
+-- memory was wanted for a piece of a line
 pub rest_no_memory : (a b c : Stream) (part now : Option (List ℕ)) (whole : Bool) → InRest a b part now → PieceRead answer_limit b c (Ok whole) → NoLine a c NoMemory
 rest_no_memory a b c part now true h piece =
     through_no_memory true answer_line (λ r. Ok (h.front ++ c.lines.kept, r)) (λ r. r) a c c (line_done a c (h.front ++ c.lines.kept) (in_line-ends answer_limit a b c h.front c.lines.kept h.in_line piece))
 rest_no_memory a b c part now false h piece = line_no_memory a c (h.front ++ c.lines.kept) (in_line-then answer_limit a b c h.front c.lines.kept h.in_line piece)
 
+-- no more of the line was read
 pub rest_stopped : (a b c : Stream) (part now : Option (List ℕ)) (e : LineError) → InRest a b part now → PieceRead answer_limit b c (Err e) → NoLine a c (answer_error e)
 rest_stopped a b c part now e h piece = line_stopped a c e (in_line-fails answer_limit a b c h.front e h.in_line piece)
 
@@ -124,14 +128,17 @@ pub rest_error : (a c : Stream) (part now : Option (List ℕ)) (e : AnswerError)
 rest_error a c part now e (Ok done) stopped is = absurd is
 rest_error a c part now e (Err x) stopped is = subst (NoLine a c) (sym is) stopped
 
+-- the same of a call that says whether the line is "end"
 pub part_error : (a c : Stream) (part now : Option (List ℕ)) (e : AnswerError) (result : Result Bool AnswerError) → NoLine a c e → IsErrAnd result (λ x. x ≡ e) → PartLineRead a c part now result
 part_error a c part now e (Ok is_end) stopped is = absurd is
 part_error a c part now e (Err x) stopped is = subst (NoLine a c) (sym is) stopped
 
+-- the error that memory was wanted
 pub memory_error : {T : Type 0} (a c : Stream) (e : AnswerError) → ◌≡◌ {A = Result T AnswerError} (Err e) (Err NoMemory) → NoLine a c NoMemory → NoLine a c e
 memory_error a c e is stopped = subst (NoLine a c) (sym (same_error e NoMemory is)) stopped
 
 -- ---- a line
+-- a line whose front was read, and then the rest of it
 pub long_line : (a b c : Stream) (part now last : Option (List ℕ)) → PieceRead answer_limit a b (Ok false) → length b.lines.kept ≡ 4096 → now ≡ part_with part b.lines.kept → (line : List ℕ) × LineInPart b c now last line
     → (line : List ℕ) × LineInPart a c part last line × (false ≡ bytes_eq line (codes "end"))
 long_line a b c part now last piece long is rest =
@@ -146,21 +153,12 @@ long_line a b c part now last piece long is rest =
       sym (not_word line (codes "end") (omega arith)),
     )
 
+-- a front of a line was read, and then no more of it
 pub long_stopped : (a b c : Stream) (e : AnswerError) → PieceRead answer_limit a b (Ok false) → NoLine b c e → NoLine a c e
 long_stopped a b c e piece stopped = through_error true answer_line answer_line (after_part b.lines.kept) a b c (line_through a b b.lines.kept piece) e stopped
 
-pub whole_line : (a b : Stream) (part now last : Option (List ℕ)) (is_end : Bool) → PieceRead answer_limit a b (Ok true) → now ≡ part_with part b.lines.kept → last ≡ part_with now (10 ∷ []) → is_end ≡ bytes_eq b.lines.kept (codes "end")
-    → (line : List ℕ) × LineInPart a b part last line × (is_end ≡ bytes_eq line (codes "end"))
-whole_line a b part now last is_end piece is feed ends = (
-  b.lines.kept,
-  record {
-    reads = line_read a b b.lines.kept piece;
-    grows = grows-then part now last b.lines.kept (10 ∷ []) (grows-add part now b.lines.kept is) (grows-add now last (10 ∷ []) feed);
-  },
-  ends,
-)
-
 -- ---- the lines to the first that is "end"
+-- a line that isn't "end" comes before the part of the lines after it
 part_cons : (l : List ℕ) (ls : List (List ℕ)) (partial : List ℕ) (goes_on : Bool) (n : ℕ) → bytes_eq l (codes "end") ≡ false
     → (let r : Coming = record { input = record { lines = l ∷ ls; partial = partial; goes_on = goes_on }; line = n } in
     let rest : Coming = record { input = record { lines = ls; partial = partial; goes_on = goes_on }; line = n + 1 } in
@@ -181,6 +179,7 @@ part_cons l ls partial goes_on n e = rw e (by_parts (part_of ls))
 same_read : (a b : List ℕ × Coming) → ◌≡◌ {A = Result (List ℕ × Coming) AnswerError} (Ok a) (Ok b) → a ≡ b
 same_read a b e = cc
 
+-- the part of an input whose next line isn't "end"
 part_more : (lines : List (List ℕ)) (partial : List ℕ) (goes_on : Bool) (n : ℕ) (line : List ℕ) (rest : Coming)
     → (let r : Coming = record { input = record { lines = lines; partial = partial; goes_on = goes_on }; line = n } in
     answer_line r ≡ Ok (line, rest) → bytes_eq line (codes "end") ≡ false → part_reading r ≡ after_part (line ++ 10 ∷ []) (part_reading rest))
@@ -194,6 +193,7 @@ part_more (l ∷ ls) partial goes_on n line rest e ends =
     ∙ (ap (λ t. after_part (t ++ 10 ∷ []) (part_reading (record { input = record { lines = ls; partial = partial; goes_on = goes_on }; line = n + 1 }))) first
     ∙ ap (λ t. after_part (line ++ 10 ∷ []) (part_reading t)) more)
 
+-- the part of an input whose next line is "end"
 part_last : (lines : List (List ℕ)) (partial : List ℕ) (goes_on : Bool) (n : ℕ) (line : List ℕ) (rest : Coming)
     → (let r : Coming = record { input = record { lines = lines; partial = partial; goes_on = goes_on }; line = n } in
     answer_line r ≡ Ok (line, rest) → bytes_eq line (codes "end") ≡ true → part_reading r ≡ Ok (line ++ 10 ∷ [], rest))
@@ -231,10 +231,11 @@ after_part-nil : (r : Result (List ℕ × Coming) AnswerError) → after_part []
 after_part-nil (Ok read) = refl
 after_part-nil (Err e) = refl
 
+-- nothing of the part was read yet
 pub in_part-start : (a : Stream) (part : Option (List ℕ)) → part ≡ Some [] → InPart a a part
 in_part-start a part is = record {
   bytes = [];
-  through = record { got = []; consumes = Consumes-none a.left; needed = inl refl; same = λ more rest. sym (after_part-nil (part_reading (coming_in more answer_limit a.lines rest))); errors = λ e. refl; rises = omega arith };
+  through = record { got = []; consumes = Consumes-none a.left; needed = inl refl; same = λ more rest. sym (after_part-nil (part_reading (coming_in more answer_limit a.lines rest))); errors = λ e. refl; calm = calm-none a };
   keeps = is;
 }
 
@@ -252,9 +253,10 @@ line_more b c line k other = record {
       let r = coming_in more answer_limit b.lines (k.got ++ rest) in
       part_more r.input.lines r.input.partial r.input.goes_on r.line line (coming_in more answer_limit c.lines rest) (k.reads more rest) other;
   errors = λ e. refl;
-  rises = k.blames.later;
+  calm = k.counts;
 }
 
+-- a line more was read
 pub in_part-next : (a b c : Stream) (part now : Option (List ℕ)) → InPart a b part → (line : List ℕ) × LineInPart b c part now line × (false ≡ bytes_eq line (codes "end")) → InPart a c now
 in_part-next a b c part now h next =
     let line = next.0 ++ 10 ∷ [] in
@@ -267,11 +269,12 @@ in_part-next a b c part now h next =
         needed = through.needed;
         same = λ more rest. through.same more rest ∙ after_part-append h.bytes line (part_reading (coming_in more answer_limit c.lines rest));
         errors = λ e. refl;
-        rises = through.rises;
+        calm = through.calm;
       };
       keeps = next.1.grows h.bytes h.keeps;
     }
 
+-- the line "end" was read
 pub in_part-ends : (a b c : Stream) (part now : Option (List ℕ)) → InPart a b part → (line : List ℕ) × LineInPart b c part now line × (true ≡ bytes_eq line (codes "end")) → PartRead a c (Ok now)
 in_part-ends a b c part now h next =
     let line = next.0 ++ 10 ∷ [] in
@@ -283,10 +286,11 @@ in_part-ends a b c part now h next =
       reads = λ more rest.
           let r = coming_in more answer_limit b.lines (k.got ++ rest) in
           part_last r.input.lines r.input.partial r.input.goes_on r.line next.0 (coming_in more answer_limit c.lines rest) (k.reads more rest) (sym next.2);
-      blames = record { later = k.blames.later; failed = λ is. absurd (cc) };
+      counts = k.counts;
     } in
     (h.bytes ++ line, through_value true part_reading part_reading (after_part h.bytes) a b c h.through line (h.bytes ++ line) (λ r. refl) last, next.1.grows h.bytes h.keeps)
 
+-- no line more was read
 pub in_part-stopped : (a b c : Stream) (part : Option (List ℕ)) (e : AnswerError) (result : Result (Option (List ℕ)) AnswerError) → InPart a b part → NoLine b c e → IsErrAnd result (λ x. x ≡ e) → PartRead a c result
 in_part-stopped a b c part e (Ok now) h stopped is = absurd is
 in_part-stopped a b c part e (Err x) h stopped is =
@@ -297,6 +301,7 @@ in_part-stopped a b c part e (Err x) h stopped is =
 abbrev canonical_part : Bool → List ℕ → Coming → Result (Instance × Coming) AnswerError
 canonical_part second bytes r = or_bad_instance (if_canonical second bytes (reading bytes)) r
 
+-- the instance is that of the bytes of the part
 instance_is : (second : Bool) (r : Coming) → instance_part second r ≡ and_then (part_reading r) (λ p. canonical_part second p.0 p.1)
 instance_is second r = by_parts (part_of r.input.lines)
   where
@@ -304,6 +309,7 @@ instance_is second r = by_parts (part_of r.input.lines)
     by_parts None = refl
     by_parts (Some parts) = refl
 
+-- what is said of the bytes of the part reads no more
 canonical_here : (second : Bool) (bytes : List ℕ) (b : Stream) (result : Result Instance AnswerError) → Canonical second bytes result → ReadInMemory (canonical_part second bytes) b b result
 canonical_here second bytes b (Ok i) is = read_none (canonical_part second bytes) b i (λ more rest. ap (λ o. or_bad_instance o (coming_in more answer_limit b.lines rest)) is)
 canonical_here second bytes b (Err (Form line)) is = absurd is
@@ -313,11 +319,13 @@ canonical_here second bytes b (Err TooLong) is = absurd is
 canonical_here second bytes b (Err ReadFault) is = absurd is
 canonical_here second bytes b (Err NoMemory) is = memory_here (canonical_part second bytes) b
 
+-- the part was read, and then judged
 pub instance_read : (second : Bool) (a b : Stream) (part : Option (List ℕ)) (result : Result Instance AnswerError) → PartRead a b (Ok part) → ((bytes : List ℕ) → part ≡ kept_part bytes → Canonical second bytes result) → ReadInMemory (instance_part second) a b result
 instance_read second a b part result read canonical =
     read_also true _ (instance_part second) (λ r. sym (instance_is second r)) a b result
     (read_then part_reading (canonical_part second) a b b read.0 result read.1 (canonical_here second read.0 b result (canonical read.0 read.2)))
 
+-- the part wasn't read
 pub instance_stopped : (second : Bool) (a b : Stream) (e : AnswerError) (result : Result Instance AnswerError) → PartRead a b (Err e) → IsErrAnd result (λ x. x ≡ e) → ReadInMemory (instance_part second) a b result
 instance_stopped second a b e result read is =
     read_also true _ (instance_part second) (λ r. sym (instance_is second r)) a b result (read_stop part_reading (canonical_part second) a b e result is read)

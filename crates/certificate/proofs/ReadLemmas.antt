@@ -1,22 +1,21 @@
 -- Calls that read an answer one after another.
-use Rattle.std.proofs.Common.{◌≡◌, ℕ, ◌≤◌, Bool, true, false, List, [], ◌++◌, length, refl, sym, ap, subst, ◌∙◌, ◌⊎◌, inl, inr, arith, append_assoc, append-nil, Option, Some, None, IfSome, option_map, ok_or, Result, Ok, Err}
+use Rattle.std.proofs.Common.{◌≡◌, ℕ, ◌≤◌, Bool, true, false, List, [], ◌++◌, length, refl, sym, ap, subst, ◌∙◌, inl, inr, arith, append_assoc, append-nil, Option, Some, None, IfSome, option_map, ok_or, Result, Ok, Err}
 use Rattle.std.specs.Prelude.{⊤}
 use Rattle.std.specs.Result.{IsErrAnd}
 use Rattle.std.specs.Io.KnownBytes.{Consumes}
 use Rattle.instance_text.specs.Reading.{and_then}
-use Rattle.port_io.specs.Faults.{Rose}
 use Rattle.port_io.proofs.SourceLemmas.{Consumes-then}
 use Rattle.line_stream.specs.declared.lines.LineError.{LineError}
 use Rattle.line_stream.specs.declared.lines.LineError.TheVariants.{Missing, Surplus, TooLong as LineTooLong, Failed as SourceFailed}
 use Rattle.line_stream.specs.Coming.{Coming, next_line, input_end}
-use Rattle.line_stream.specs.Stream.{LinesState, Stream, coming_in, Settles, IsNeeded, HasEnded}
-use Rattle.line_stream.specs.LineReading.{after_front, InLine, IsLine, IsStopped, IsKept, LineRead, IsEnd, EndRead as LinesEndRead}
-use Rattle.line_stream.proofs.LineLemmas.{Consumes-none, ended-then, rose-then, needed-kept, needed-last}
+use Rattle.line_stream.specs.Stream.{LinesState, Stream, IsCalm, coming_in, Settles, IsNeeded}
+use Rattle.line_stream.specs.LineReading.{Blames as LineBlames, IsLine, IsStopped, IsKept, LineRead, EndRead as LinesEndRead}
+use Rattle.line_stream.proofs.LineLemmas.{Consumes-none, calm-none, calm-then, ended-then, rose-then, needed-kept, needed-last}
 use Rattle.certificate.specs.declared.reader.AnswerError.{AnswerError}
 use Rattle.certificate.specs.declared.reader.AnswerError.TheVariants.{Form, Instance as BadInstance, TooLong, ReadFault, NoMemory}
 use Rattle.certificate.specs.HeadReading.{answer_limit, answer_error, in_answer, answer_line, or_form, formed, end_of}
 use Rattle.certificate.specs.Blames.{Blames}
-use Rattle.certificate.specs.AnswerReading.{StopsAs, ReadWith, EndRead}
+use Rattle.certificate.specs.AnswerReading.{StopsAs, BlamesAs, CountsAs, ReadWith, EndRead}
 use Rattle.certificate.specs.ReaderView.{FailsAs, ReadsTo, EndsAs, TakesNone}
 
 -- ---- what was wanted before some bytes were read is told by what is wanted after them
@@ -27,7 +26,7 @@ pub record IsThrough {T U : Type 0} (wanted : Coming → Result U AnswerError) (
   pub needed : IsNeeded answer_limit wanted TooLong before.lines got
   pub same : (more : Bool) (rest : List ℕ) → wanted (coming_in more answer_limit before.lines (got ++ rest)) ≡ change (later (coming_in more answer_limit after.lines rest))
   pub errors : (e : AnswerError) → change (Err e) ≡ Err e
-  pub rises : before.faults ≤ after.faults
+  pub calm : IsCalm before after
 
 error_or : {T : Type 0} → AnswerError → Result T AnswerError → AnswerError
 error_or e (Ok value) = e
@@ -38,17 +37,25 @@ pub same_error : {T : Type 0} (e f : AnswerError) → ◌≡◌ {A = Result T An
 unfolding error_or
 same_error e f is = ap (error_or e) is
 
--- an error blames the source in whatever it is a result of
-pub blames_as : {T U : Type 0} (before after : ℕ) (error : AnswerError) → Blames {T = T} before after (Err error) → Blames {T = U} before after (Err error)
-blames_as before after error blames = record { later = blames.later; failed = λ is. blames.failed (ap Err (same_error error ReadFault is)) }
+-- no call failed before the one that is answered
+blames_later : (a b c : Stream) (e : AnswerError) → IsCalm a b → BlamesAs b c e → BlamesAs a c e
+blames_later a b c (Form line) h k = calm-then a b c h k
+blames_later a b c BadInstance h k = calm-then a b c h k
+blames_later a b c TooLong h k = calm-then a b c h k
+blames_later a b c ReadFault h k = (omega (arith, h.later, k.0), rose-then a.faults b.faults c.faults h.later k.1)
+blames_later a b c NoMemory h k = calm-then a b c h k
 
-blames_later : {T : Type 0} (a b c : ℕ) (result : Result T AnswerError) → a ≤ b → Blames b c result → Blames a c result
-blames_later a b c result le blames = record { later = omega (arith, blames.later); failed = λ is. rose-then a b c le (blames.failed is) }
-
-no_blame : {T : Type 0} (a b : ℕ) (value : T) → a ≤ b → Blames {T = T} a b (Ok value)
-no_blame a b value le = record { later = le; failed = λ is. absurd (cc) }
+-- what public calls say of the count
+pub blames_of : {T : Type 0} (a b : Stream) (result : Result T AnswerError) → CountsAs a b result → Blames a.faults b.faults result
+blames_of a b (Ok v) h = record { later = h.later; failed = λ is. absurd (cc) }
+blames_of a b (Err ReadFault) h = record { later = h.0; failed = λ is. h.1 }
+blames_of a b (Err (Form line)) h = record { later = h.later; failed = λ is. absurd (let no : Form line ≡ ReadFault = same_error (Form line) ReadFault is in cc) }
+blames_of a b (Err BadInstance) h = record { later = h.later; failed = λ is. absurd (let no : BadInstance ≡ ReadFault = same_error BadInstance ReadFault is in cc) }
+blames_of a b (Err TooLong) h = record { later = h.later; failed = λ is. absurd (let no : TooLong ≡ ReadFault = same_error TooLong ReadFault is in cc) }
+blames_of a b (Err NoMemory) h = record { later = h.later; failed = λ is. absurd (let no : NoMemory ≡ ReadFault = same_error NoMemory ReadFault is in cc) }
 
 module _ {T U : Type 0} (wanted : Coming → Result U AnswerError) (later : Coming → Result T AnswerError) (change : Result T AnswerError → Result U AnswerError) (a b c : Stream) (h : IsThrough wanted later change a b) where
+  -- nothing was read that wasn't needed, before and after
   through_needed : (got : List ℕ) → IsNeeded answer_limit later TooLong b.lines got → IsNeeded answer_limit wanted TooLong a.lines (h.got ++ got)
   through_needed got (inl none) = needed-kept answer_limit wanted TooLong a.lines h.got got none h.needed
   through_needed got (inr last) =
@@ -62,6 +69,7 @@ module _ {T U : Type 0} (wanted : Coming → Result U AnswerError) (later : Comi
   through_settles : (got : List ℕ) (e : AnswerError) → Settles answer_limit later b.lines got (Err e) → Settles answer_limit wanted a.lines (h.got ++ got) (Err e)
   through_settles got e settles more rest = through_same got (Err e) more rest (settles more rest) ∙ h.errors e
 
+  -- an error that comes later is one of the whole
   through_stops : (n : Bool) (got : List ℕ) (e : AnswerError) → StopsAs n later b c got e → StopsAs n wanted a c (h.got ++ got) e
   through_stops n got (Form line) (inl settles) = inl (through_settles got (Form line) settles)
   through_stops n got (Form line) (inr ended) =
@@ -79,7 +87,7 @@ module _ {T U : Type 0} (n : Bool) (wanted : Coming → Result (U × Coming) Ans
     consumes = Consumes-then a.left b.left c.left h.got k.got h.consumes k.consumes;
     needed = through_needed wanted later change a b c h k.got k.needed;
     reads = through_stops wanted later change a b c h n k.got e k.reads;
-    blames = blames_later a.faults b.faults c.faults (Err e) h.rises (blames_as b.faults c.faults e k.blames);
+    counts = blames_later a b c e h.calm k.counts;
   }
 
   -- a value that is read later
@@ -89,7 +97,7 @@ module _ {T U : Type 0} (n : Bool) (wanted : Coming → Result (U × Coming) Ans
     consumes = Consumes-then a.left b.left c.left h.got k.got h.consumes k.consumes;
     needed = through_needed wanted later change a b c h k.got k.needed;
     reads = λ more rest. through_same wanted later change a b c h k.got (Ok (v, coming_in more answer_limit c.lines rest)) more rest (k.reads more rest) ∙ is (coming_in more answer_limit c.lines rest);
-    blames = no_blame a.faults c.faults w (omega (arith, h.rises, k.blames.later));
+    counts = calm-then a b c h.calm k.counts;
   }
 
   -- memory is wanted
@@ -99,9 +107,10 @@ module _ {T U : Type 0} (n : Bool) (wanted : Coming → Result (U × Coming) Ans
     consumes = h.consumes;
     needed = h.needed;
     reads = refl;
-    blames = record { later = h.rises; failed = λ is. absurd (let no : NoMemory ≡ ReadFault = same_error NoMemory ReadFault is in cc) };
+    counts = h.calm;
   }
 
+-- one thing after another
 pub through_then : {T U V : Type 0} (wanted : Coming → Result V AnswerError) (later : Coming → Result U AnswerError) (last : Coming → Result T AnswerError) (change : Result U AnswerError → Result V AnswerError) (change' : Result T AnswerError → Result U AnswerError)
     (a b c : Stream) → IsThrough wanted later change a b → IsThrough later last change' b c → IsThrough wanted last (λ r. change (change' r)) a c
 through_then wanted later last change change' a b c h k = record {
@@ -110,9 +119,21 @@ through_then wanted later last change change' a b c h k = record {
   needed = through_needed wanted later change a b c h k.got k.needed;
   same = λ more rest. through_same wanted later change a b c h k.got (change' (last (coming_in more answer_limit c.lines rest))) more rest (k.same more rest);
   errors = λ e. ap change (k.errors e) ∙ h.errors e;
-  rises = omega (arith, h.rises, k.rises);
+  calm = calm-then a b c h.calm k.calm;
 }
 
+-- no call failed, whatever the lines hold
+calm_lines : (a b : Stream) (lines : LinesState) → IsCalm a b → IsCalm a (record b { lines = lines })
+calm_lines a b lines h = record { later = h.later; same = h.same; quiet = h.quiet }
+
+blames_lines : (a b : Stream) (lines : LinesState) (e : AnswerError) → BlamesAs a b e → BlamesAs a (record b { lines = lines }) e
+blames_lines a b lines (Form line) h = calm_lines a b lines h
+blames_lines a b lines BadInstance h = calm_lines a b lines h
+blames_lines a b lines TooLong h = calm_lines a b lines h
+blames_lines a b lines ReadFault h = h
+blames_lines a b lines NoMemory h = calm_lines a b lines h
+
+-- what is known at an error doesn't count what the lines hold
 stops_lines : {T : Type 0} (n : Bool) (wanted : Coming → Result T AnswerError) (a b : Stream) (lines : LinesState) (got : List ℕ) (e : AnswerError) → StopsAs n wanted a b got e → StopsAs n wanted a (record b { lines = lines }) got e
 stops_lines n wanted a b lines got (Form line) stops = stops
 stops_lines n wanted a b lines got BadInstance stops = stops
@@ -133,7 +154,7 @@ error_also n f g also a b e h = record {
   consumes = h.consumes;
   needed = needed_also f g also a.lines h.got h.needed;
   reads = by_error e h.reads;
-  blames = blames_as a.faults b.faults e h.blames;
+  counts = h.counts;
 }
   where
     by_error : (e : AnswerError) → StopsAs n f a b h.got e → StopsAs n g a b h.got e
@@ -145,8 +166,31 @@ error_also n f g also a b e h = record {
     by_error NoMemory takes = takes
 
 -- at an error it doesn't count what the lines hold
-pub error_lines : {T : Type 0} {n : Bool} (wanted : Coming → Result (T × Coming) AnswerError) (a b : Stream) (lines : LinesState) (e : AnswerError) → ReadWith {T = T} n wanted a b (Err e) → ReadWith {T = T} n wanted a (record b { lines = lines }) (Err e)
-error_lines {n = n} wanted a b lines e h = record { got = h.got; consumes = h.consumes; needed = h.needed; reads = stops_lines n wanted a b lines h.got e h.reads; blames = h.blames }
+error_lines : {T : Type 0} {n : Bool} (wanted : Coming → Result (T × Coming) AnswerError) (a b : Stream) (lines : LinesState) (e : AnswerError) → ReadWith {T = T} n wanted a b (Err e) → ReadWith {T = T} n wanted a (record b { lines = lines }) (Err e)
+error_lines {n = n} wanted a b lines e h = record { got = h.got; consumes = h.consumes; needed = h.needed; reads = stops_lines n wanted a b lines h.got e h.reads; counts = blames_lines a b lines e h.counts }
+
+-- a source is strict or not, whatever is read of it
+strict_blames : (a b : Stream) (e : AnswerError) → BlamesAs a b e → BlamesAs a (record b { is_strict = a.is_strict }) e
+strict_blames a b (Form line) h = record { later = h.later; same = refl; quiet = h.quiet }
+strict_blames a b BadInstance h = record { later = h.later; same = refl; quiet = h.quiet }
+strict_blames a b TooLong h = record { later = h.later; same = refl; quiet = h.quiet }
+strict_blames a b ReadFault h = h
+strict_blames a b NoMemory h = record { later = h.later; same = refl; quiet = h.quiet }
+
+strict_stops : {T : Type 0} (n : Bool) (wanted : Coming → Result T AnswerError) (a b : Stream) (strict : Bool) (got : List ℕ) (e : AnswerError) → StopsAs n wanted a b got e → StopsAs n wanted a (record b { is_strict = strict }) got e
+strict_stops n wanted a b strict got (Form line) stops = stops
+strict_stops n wanted a b strict got BadInstance stops = stops
+strict_stops n wanted a b strict got TooLong stops = stops
+strict_stops n wanted a b strict got ReadFault stops = stops
+strict_stops n wanted a b strict got NoMemory stops = stops
+
+-- at an error, said of lines of which nothing was read
+pub error_start : {T : Type 0} {n : Bool} (wanted : Coming → Result (T × Coming) AnswerError) (a b : Stream) (lines : LinesState) (e : AnswerError) → ReadWith {T = T} n wanted a b (Err e)
+    → ReadWith {T = T} n wanted a (record { lines = lines; left = b.left; faults = b.faults; is_strict = a.is_strict }) (Err e)
+error_start {n = n} wanted a b lines e h =
+    let here : Stream = record b { lines = lines } in
+    let k = error_lines {n = n} wanted a b lines e h in
+    record { got = k.got; consumes = k.consumes; needed = k.needed; reads = strict_stops n wanted a here a.is_strict k.got e k.reads; counts = strict_blames a here e k.counts }
 
 -- what is wanted in other words
 pub read_also : {T : Type 0} (n : Bool) (f g : Coming → Result (T × Coming) AnswerError) → ((r : Coming) → f r ≡ g r) → (a b : Stream) (result : Result T AnswerError) → ReadWith n f a b result → ReadWith n g a b result
@@ -155,7 +199,7 @@ read_also n f g same a b (Ok v) h = record {
   consumes = h.consumes;
   needed = needed_also f g (λ r e is. sym (same r) ∙ is) a.lines h.got h.needed;
   reads = λ more rest. sym (same (coming_in more answer_limit a.lines (h.got ++ rest))) ∙ h.reads more rest;
-  blames = h.blames;
+  counts = h.counts;
 }
 read_also n f g same a b (Err e) h = error_also n f g (λ r e is. sym (same r) ∙ is) a b e h
 
@@ -167,10 +211,12 @@ module _ {T U : Type 0} (f : Coming → Result (T × Coming) AnswerError) (g : T
   abbrev rest_of : Result (T × Coming) AnswerError → Result (U × Coming) AnswerError
   rest_of r = and_then r (λ x. g x.0 x.1)
 
+  -- what leaves the first open leaves both open
   both_needed : (s : LinesState) (got : List ℕ) → IsNeeded answer_limit f TooLong s got → IsNeeded answer_limit both TooLong s got
   both_needed s got (inl none) = inl none
   both_needed s got (inr last) = inr (record { front = last.front; piece = last.piece; parts = last.parts; few = last.few; undecided = ap rest_of last.undecided })
 
+  -- after the value of the first the second is wanted
   after_value : {m : Bool} (a b : Stream) (v : T) → ReadWith m f a b (Ok v) → IsThrough both (g v) (λ r. r) a b
   after_value a b v h = record {
     got = h.got;
@@ -178,11 +224,12 @@ module _ {T U : Type 0} (f : Coming → Result (T × Coming) AnswerError) (g : T
     needed = both_needed a.lines h.got h.needed;
     same = λ more rest. ap rest_of (h.reads more rest);
     errors = λ e. refl;
-    rises = h.blames.later;
+    calm = h.counts;
   }
 
+  -- at the start the first is wanted
   from_start : (a : Stream) → IsThrough both f rest_of a a
-  from_start a = record { got = []; consumes = Consumes-none a.left; needed = inl refl; same = λ more rest. refl; errors = λ e. refl; rises = omega arith }
+  from_start a = record { got = []; consumes = Consumes-none a.left; needed = inl refl; same = λ more rest. refl; errors = λ e. refl; calm = calm-none a }
 
   -- the first read a value, and the second answers
   pub read_then : {m n : Bool} (a b c : Stream) (v : T) (result : Result U AnswerError) → ReadWith m f a b (Ok v) → ReadWith n (g v) b c result → ReadWith n both a c result
@@ -198,30 +245,32 @@ module _ {T U : Type 0} (f : Coming → Result (T × Coming) AnswerError) (g : T
 -- ---- calls that read nothing
 pub read_none : {T : Type 0} {n : Bool} (wanted : Coming → Result (T × Coming) AnswerError) (a : Stream) (v : T)
     → ((more : Bool) (rest : List ℕ) → wanted (coming_in more answer_limit a.lines rest) ≡ Ok (v, coming_in more answer_limit a.lines rest)) → ReadWith n wanted a a (Ok v)
-read_none wanted a v is = record { got = []; consumes = Consumes-none a.left; needed = inl refl; reads = is; blames = no_blame a.faults a.faults v (omega arith) }
+read_none wanted a v is = record { got = []; consumes = Consumes-none a.left; needed = inl refl; reads = is; counts = calm-none a }
 
+-- that the instance isn't canonical is settled without reading on
 pub settled_here : {T : Type 0} {n : Bool} (wanted : Coming → Result (T × Coming) AnswerError) (a : Stream) → Settles answer_limit wanted a.lines [] (Err BadInstance) → ReadWith {T = T} n wanted a a (Err BadInstance)
 settled_here wanted a settles = record {
   got = [];
   consumes = Consumes-none a.left;
   needed = inl refl;
   reads = settles;
-  blames = record { later = omega arith; failed = λ is. absurd (let no : BadInstance ≡ ReadFault = same_error BadInstance ReadFault is in cc) };
+  counts = calm-none a;
 }
 
+-- memory is wanted without reading on
 pub memory_here : {T : Type 0} (wanted : Coming → Result (T × Coming) AnswerError) (a : Stream) → ReadWith {T = T} true wanted a a (Err NoMemory)
 memory_here wanted a = record {
   got = [];
   consumes = Consumes-none a.left;
   needed = inl refl;
   reads = refl;
-  blames = record { later = omega arith; failed = λ is. absurd (let no : NoMemory ≡ ReadFault = same_error NoMemory ReadFault is in cc) };
+  counts = calm-none a;
 }
 
 -- what needs no memory may be said of one that takes it
 pub in_memory : {T : Type 0} {n : Bool} (wanted : Coming → Result (T × Coming) AnswerError) (a b : Stream) (result : Result T AnswerError) → ReadWith false wanted a b result → ReadWith n wanted a b result
-in_memory wanted a b (Ok v) h = record { got = h.got; consumes = h.consumes; needed = h.needed; reads = h.reads; blames = h.blames }
-in_memory {n = n} wanted a b (Err e) h = record { got = h.got; consumes = h.consumes; needed = h.needed; reads = by_error e h.reads; blames = h.blames }
+in_memory wanted a b (Ok v) h = record { got = h.got; consumes = h.consumes; needed = h.needed; reads = h.reads; counts = h.counts }
+in_memory {n = n} wanted a b (Err e) h = record { got = h.got; consumes = h.consumes; needed = h.needed; reads = by_error e h.reads; counts = h.counts }
   where
     by_error : (e : AnswerError) → StopsAs false wanted a b h.got e → StopsAs n wanted a b h.got e
     by_error (Form line) stops = stops
@@ -231,50 +280,54 @@ in_memory {n = n} wanted a b (Err e) h = record { got = h.got; consumes = h.cons
     by_error NoMemory stops = absurd (cc)
 
 -- ---- lines
+-- what leaves a line open leaves it open for an answer
 pub line_needed : {T : Type 0} (wanted : Coming → Result T LineError) (s : LinesState) (got : List ℕ) → IsNeeded answer_limit wanted LineTooLong s got → IsNeeded answer_limit (λ r. in_answer (wanted r)) TooLong s got
 line_needed wanted s got (inl none) = inl none
 line_needed wanted s got (inr last) = inr (record { front = last.front; piece = last.piece; parts = last.parts; few = last.few; undecided = ap in_answer last.undecided })
 
+-- a line was read
 pub line_read : {n : Bool} (a b : Stream) (line : List ℕ) → IsLine answer_limit a b line → ReadWith n answer_line a b (Ok line)
 line_read a b line h = record {
   got = h.got;
   consumes = h.consumes;
   needed = line_needed next_line a.lines h.got h.needed;
   reads = λ more rest. ap in_answer (h.reads more rest);
-  blames = no_blame a.faults b.faults line h.later;
+  counts = h.calm;
 }
 
 module _ {T : Type 0} (wanted : Coming → Result T LineError) (a b : Stream) where
+  -- an error of the lines, as one of an answer
   stopped_as : (n : Bool) (got : List ℕ) (e : LineError) → (h : IsStopped answer_limit wanted a b e) → StopsAs n (λ r. in_answer (wanted r)) a b h.got (answer_error e)
   stopped_as n got (Missing line) h = inr (ap in_answer h.stops.0, h.stops.1)
   stopped_as n got (Surplus line) h = inl (λ more rest. ap in_answer (h.stops more rest))
   stopped_as n got LineTooLong h = λ more rest. ap in_answer (h.stops more rest)
   stopped_as n got SourceFailed h = ap in_answer h.stops
 
-  stopped_blames : {U : Type 0} (e : LineError) → IsStopped answer_limit wanted a b e → Blames {T = U} a.faults b.faults (Err (answer_error e))
-  stopped_blames e h = record { later = h.blames.later; failed = λ is. by_error e h (same_error (answer_error e) ReadFault is) }
-    where
-      by_error : (e : LineError) → IsStopped answer_limit wanted a b e → answer_error e ≡ ReadFault → Rose a.faults b.faults
-      by_error (Missing line) h is = absurd (cc)
-      by_error (Surplus line) h is = absurd (cc)
-      by_error LineTooLong h is = absurd (cc)
-      by_error SourceFailed h is = h.blames.failed refl
+  -- the cause of an error of the lines, as of one of an answer
+  stopped_blames : (e : LineError) → LineBlames a b e → BlamesAs a b (answer_error e)
+  stopped_blames (Missing line) h = h
+  stopped_blames (Surplus line) h = h
+  stopped_blames LineTooLong h = h
+  stopped_blames SourceFailed h = h
 
+-- no line was read
 pub line_stopped : {n : Bool} (a b : Stream) (e : LineError) → IsStopped answer_limit next_line a b e → ReadWith {T = List ℕ} n answer_line a b (Err (answer_error e))
 line_stopped {n = n} a b e h = record {
   got = h.got;
   consumes = h.consumes;
   needed = line_needed next_line a.lines h.got h.needed;
   reads = stopped_as next_line a b n h.got e h;
-  blames = stopped_blames next_line a b e h;
+  counts = stopped_blames next_line a b e h.blames;
 }
 
 -- ---- a line of a form
+-- a line that is too long to be kept is of no form
 kept_form : {T : Type 0} (form : List ℕ → Option T) → form [] ≡ None → ((line : List ℕ) → 4096 ≤ length line → form line ≡ None)
     → (line kept : List ℕ) → IsKept kept line → form line ≡ form kept
 kept_form form none long line kept (inl same) = ap form (sym same)
 kept_form form none long line kept (inr lost) = long line lost.1 ∙ (sym none ∙ ap form (sym lost.0))
 
+-- a line is of the form or not, without reading on
 formed_here : {T : Type 0} {n : Bool} (form : List ℕ → Option T) (line : List ℕ) (b : Stream) (at : ℕ) (value : Option T) → form line ≡ value → at ≡ b.lines.line
     → ReadWith n (λ r. or_form (form line) r) b b (ok_or value (Form at))
 formed_here form line b at (Some v) is same = read_none (λ r. or_form (form line) r) b v (λ more rest. ap (λ o. or_form o (coming_in more answer_limit b.lines rest)) is)
@@ -283,7 +336,7 @@ formed_here form line b at None is same = record {
   consumes = Consumes-none b.left;
   needed = inl refl;
   reads = inl (λ more rest. ap (λ o. or_form o (coming_in more answer_limit b.lines rest)) is ∙ ap (λ k. Err (Form k)) (sym same));
-  blames = record { later = omega arith; failed = λ e. absurd (let no : Form at ≡ ReadFault = same_error (Form at) ReadFault e in cc) };
+  counts = calm-none b;
 }
 
 -- what is said of the line that was kept is said of the line that was read
@@ -300,16 +353,17 @@ pub formed_stopped : {T : Type 0} {n : Bool} (form : List ℕ → Option T) (a b
 formed_stopped form a b e result h is = read_stop answer_line (λ line r. or_form (form line) r) a b (answer_error e) result is (line_stopped a b e h)
 
 -- ---- what public calls say
-told_read : {T : Type 0} (n : Bool) (wanted : Coming → Result (T × Coming) AnswerError) (s t : LinesState) (x y : ℕ) (l k : Option (List ℕ)) (result : Result T AnswerError)
-    → ReadWith n wanted (record { lines = s; left = l; faults = x }) (record { lines = t; left = k; faults = y }) result
+-- what a call reads of bytes that are told
+told_read : {T : Type 0} (n : Bool) (wanted : Coming → Result (T × Coming) AnswerError) (s t : LinesState) (x y : ℕ) (i j : Bool) (l k : Option (List ℕ)) (result : Result T AnswerError)
+    → ReadWith n wanted (record { lines = s; left = l; faults = x; is_strict = i }) (record { lines = t; left = k; faults = y; is_strict = j }) result
     → IfSome (option_map (coming_in false answer_limit s) l) (λ before. ReadsTo (wanted before) (option_map (coming_in false answer_limit t) k) result)
-told_read n wanted s t x y None k result h = tt
-told_read n wanted s t x y (Some l) None result h = absurd h.consumes
-told_read n wanted s t x y (Some l) (Some k) (Ok v) h =
+told_read n wanted s t x y i j None k result h = tt
+told_read n wanted s t x y i j (Some l) None result h = absurd h.consumes
+told_read n wanted s t x y i j (Some l) (Some k) (Ok v) h =
     (coming_in false answer_limit t k, ap (λ m. wanted (coming_in false answer_limit s m)) h.consumes ∙ h.reads false k, refl)
-told_read n wanted s t x y (Some l) (Some k) (Err e) h = by_error e h.reads
+told_read n wanted s t x y i j (Some l) (Some k) (Err e) h = by_error e h.reads
   where
-    by_error : (e : AnswerError) → StopsAs n wanted (record { lines = s; left = Some l; faults = x }) (record { lines = t; left = Some k; faults = y }) h.got e → FailsAs (wanted (coming_in false answer_limit s l)) e
+    by_error : (e : AnswerError) → StopsAs n wanted (record { lines = s; left = Some l; faults = x; is_strict = i }) (record { lines = t; left = Some k; faults = y; is_strict = j }) h.got e → FailsAs (wanted (coming_in false answer_limit s l)) e
     by_error (Form line) (inl settles) = ap (λ m. wanted (coming_in false answer_limit s m)) h.consumes ∙ settles false k
     by_error (Form line) (inr ended) =
         let none : k ≡ [] = cc in
@@ -322,8 +376,9 @@ told_read n wanted s t x y (Some l) (Some k) (Err e) h = by_error e h.reads
 -- what a call reads, where the source tells its bytes
 pub reads_to : {T : Type 0} {n : Bool} (wanted : Coming → Result (T × Coming) AnswerError) (a b : Stream) (result : Result T AnswerError) → ReadWith n wanted a b result
     → IfSome (option_map (coming_in false answer_limit a.lines) a.left) (λ before. ReadsTo (wanted before) (option_map (coming_in false answer_limit b.lines) b.left) result)
-reads_to {n = n} wanted a b result h = told_read n wanted a.lines b.lines a.faults b.faults a.left b.left result h
+reads_to {n = n} wanted a b result h = told_read n wanted a.lines b.lines a.faults b.faults a.is_strict b.is_strict a.left b.left result h
 
+-- a call that takes no memory wants none
 pub takes_none : {T : Type 0} (wanted : Coming → Result (T × Coming) AnswerError) (a b : Stream) (result : Result T AnswerError) → ReadWith false wanted a b result → TakesNone result
 takes_none wanted a b (Ok v) h = tt
 takes_none wanted a b (Err (Form line)) h = tt
@@ -333,9 +388,11 @@ takes_none wanted a b (Err ReadFault) h = tt
 takes_none wanted a b (Err NoMemory) h = absurd (let no : false ≡ true = h.reads in cc)
 
 -- ---- the end
+-- the end was read
 pub end_read : (a b : Stream) (done : ⊤) → LinesEndRead answer_limit a b (Ok done) → EndRead a b (Ok tt)
 end_read a b done h = h
 
+-- no end was read
 pub end_stopped : (a b : Stream) (e : LineError) (result : Result ⊤ AnswerError) → LinesEndRead answer_limit a b (Err e) → IsErrAnd result (λ x. x ≡ answer_error e) → EndRead a b result
 end_stopped a b e (Ok done) h is = absurd is
 end_stopped a b e (Err x) h is =
@@ -344,20 +401,21 @@ end_stopped a b e (Err x) h is =
       consumes = h.consumes;
       needed = line_needed input_end a.lines h.got h.needed;
       stops = stopped_as input_end a b false h.got e h;
-      blames = stopped_blames input_end a b e h;
+      counts = stopped_blames input_end a b e h.blames;
     })
 
-told_end : (s t : LinesState) (x y : ℕ) (l k : Option (List ℕ)) (result : Result ⊤ AnswerError) → EndRead (record { lines = s; left = l; faults = x }) (record { lines = t; left = k; faults = y }) result
+-- what a call reads of the end of bytes that are told
+told_end : (s t : LinesState) (x y : ℕ) (i j : Bool) (l k : Option (List ℕ)) (result : Result ⊤ AnswerError) → EndRead (record { lines = s; left = l; faults = x; is_strict = i }) (record { lines = t; left = k; faults = y; is_strict = j }) result
     → IfSome (option_map (coming_in false answer_limit s) l) (λ before. EndsAs (end_of before) k result)
-told_end s t x y None k result h = tt
-told_end s t x y (Some l) None (Ok done) h = absurd h.consumes
-told_end s t x y (Some l) None (Err e) h = absurd h.consumes
-told_end s t x y (Some l) (Some k) (Ok done) h =
+told_end s t x y i j None k result h = tt
+told_end s t x y i j (Some l) None (Ok done) h = absurd h.consumes
+told_end s t x y i j (Some l) None (Err e) h = absurd h.consumes
+told_end s t x y i j (Some l) (Some k) (Ok done) h =
     let none : k ≡ [] = let e = h.left in cc in
     (ap (λ m. end_of (coming_in false answer_limit s m)) (h.consumes ∙ none) ∙ ap in_answer h.ends, h.left)
-told_end s t x y (Some l) (Some k) (Err e) h = by_error e h.stops
+told_end s t x y i j (Some l) (Some k) (Err e) h = by_error e h.stops
   where
-    by_error : (e : AnswerError) → StopsAs false end_of (record { lines = s; left = Some l; faults = x }) (record { lines = t; left = Some k; faults = y }) h.got e → FailsAs (end_of (coming_in false answer_limit s l)) e
+    by_error : (e : AnswerError) → StopsAs false end_of (record { lines = s; left = Some l; faults = x; is_strict = i }) (record { lines = t; left = Some k; faults = y; is_strict = j }) h.got e → FailsAs (end_of (coming_in false answer_limit s l)) e
     by_error (Form line) (inl settles) = ap (λ m. end_of (coming_in false answer_limit s m)) h.consumes ∙ settles false k
     by_error (Form line) (inr ended) =
         let none : k ≡ [] = cc in
@@ -369,7 +427,7 @@ told_end s t x y (Some l) (Some k) (Err e) h = by_error e h.stops
 
 -- the end that is read, where the source tells its bytes
 pub ends_as : (a b : Stream) (result : Result ⊤ AnswerError) → EndRead a b result → IfSome (option_map (coming_in false answer_limit a.lines) a.left) (λ before. EndsAs (end_of before) b.left result)
-ends_as a b result h = told_end a.lines b.lines a.faults b.faults a.left b.left result h
+ends_as a b result h = told_end a.lines b.lines a.faults b.faults a.is_strict b.is_strict a.left b.left result h
 
 pub end_takes_none : (a b : Stream) (result : Result ⊤ AnswerError) → EndRead a b result → TakesNone result
 end_takes_none a b (Ok done) h = tt
@@ -380,10 +438,10 @@ end_takes_none a b (Err ReadFault) h = tt
 end_takes_none a b (Err NoMemory) h = absurd (let no : false ≡ true = h.stops in cc)
 
 pub end_blames : (a b : Stream) (result : Result ⊤ AnswerError) → EndRead a b result → Blames a.faults b.faults result
-end_blames a b (Ok done) h = no_blame a.faults b.faults done h.later
-end_blames a b (Err e) h = h.blames
+end_blames a b (Ok done) h = record { later = h.calm.later; failed = λ is. absurd (cc) }
+end_blames a b (Err e) h = blames_of a b (Err e) h.counts
 
 -- after the end it doesn't count what the lines hold
 pub end_lines : (a b : Stream) (lines : LinesState) (result : Result ⊤ AnswerError) → EndRead a b result → EndRead a (record b { lines = lines }) result
-end_lines a b lines (Ok done) h = record { ends = h.ends; consumes = h.consumes; left = h.left; later = h.later }
-end_lines a b lines (Err e) h = record { got = h.got; consumes = h.consumes; needed = h.needed; stops = stops_lines false end_of a b lines h.got e h.stops; blames = h.blames }
+end_lines a b lines (Ok done) h = record { ends = h.ends; consumes = h.consumes; left = h.left; calm = calm_lines a b lines h.calm }
+end_lines a b lines (Err e) h = record { got = h.got; consumes = h.consumes; needed = h.needed; stops = stops_lines false end_of a b lines h.got e h.stops; counts = blames_lines a b lines e h.counts }

@@ -1,5 +1,5 @@
 -- The text of an answer, part by part.
-use Rattle.std.proofs.Common.{◌≡◌, ℕ, List, [], ◌∷◌, ◌++◌, map, codes, refl, ap, ◌∙◌}
+use Rattle.std.proofs.Common.{◌≡◌, ℕ, List, [], ◌∷◌, ◌++◌, map, codes, refl, ap, ◌∙◌, append_assoc}
 use Rattle.std.specs.List.{flat_map}
 use Rattle.std.specs.Fmt.{signed_decimal}
 use Rattle.std.proofs.lemmas.List.{append-nil}
@@ -13,9 +13,26 @@ use Rattle.discard_log.specs.declared.node.Node.{Node}
 use Rattle.discard_log.specs.Nodes.{mark_of}
 use Rattle.certificate.specs.Written.{node_text}
 
--- two lines
-pub two_lines : (a b : List (List ℕ)) → text_of (a ∷ b ∷ []) ≡ line_text a ++ line_text b
-two_lines a b = ap (λ bytes. line_text a ++ bytes) (append-nil (line_text b))
+-- the bytes of a line, and then others
+abbrev pub line_then : List (List ℕ) → List ℕ → List ℕ
+line_then [] rest = 10 ∷ rest
+line_then (field ∷ []) rest = field ++ 10 ∷ rest
+line_then (field ∷ next ∷ fields) rest = field ++ 32 ∷ line_then (next ∷ fields) rest
+
+line_text-then : (fields : List (List ℕ)) (rest : List ℕ) → line_text fields ++ rest ≡ line_then fields rest
+line_text-then [] rest = refl
+line_text-then (field ∷ []) rest = append_assoc field (10 ∷ []) rest
+line_text-then (field ∷ next ∷ fields) rest =
+    append_assoc field (32 ∷ line_text (next ∷ fields)) rest ∙ ap (λ bytes. field ++ 32 ∷ bytes) (line_text-then (next ∷ fields) rest)
+
+-- lines as they are put, byte after byte
+abbrev pub as_put : List (List (List ℕ)) → List ℕ
+as_put [] = []
+as_put (line ∷ lines) = line_then line (as_put lines)
+
+pub text_of-as_put : (lines : List (List (List ℕ))) → text_of lines ≡ as_put lines
+text_of-as_put [] = refl
+text_of-as_put (line ∷ lines) = ap (λ bytes. line_text line ++ bytes) (text_of-as_put lines) ∙ line_text-then line (as_put lines)
 
 abbrev limits_lines : Head → List (List (List ℕ))
 limits_lines h = (codes "gap" ∷ signed_decimal h.gap ∷ []) ∷ number_line (codes "budget") h.budget ∷ number_line (codes "pool") h.pool ∷ []

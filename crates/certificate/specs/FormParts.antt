@@ -14,5 +14,10 @@ space_first (b ∷ bs) = if b == 32 then Some bs else None
 -- the root, where these are the word of its line, its corner and its level
 abbrev pub root_fields : Square → List ℕ → Option Square
 root_fields root line =
-    option_and_then (λ x. option_and_then (λ y. option_and_then (λ level. only_if (bytes_eq (signed_decimal (pos root.level)) level) root)
-    (after_word (signed_decimal root.y) y)) (after_word (signed_decimal root.x) x)) (after_word (codes "root") line)
+    option_and_then
+    (λ x. option_and_then
+    (λ y. option_and_then
+    (λ level. only_if (bytes_eq (signed_decimal (pos root.level)) level) root)
+    (after_word (signed_decimal root.y) y))
+    (after_word (signed_decimal root.x) x))
+    (after_word (codes "root") line)

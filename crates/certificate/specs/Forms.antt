@@ -1,4 +1,5 @@
--- The forms of the lines of an answer, each with the value that a line of the form has. A number is in canonical decimal, and in its range.
+-- The forms of the lines of an answer, each with the value that a line of the form has. A number is
+-- in canonical decimal, and in its range.
 use Rattle.std.specs.Prelude.{ℕ, ◌+◌, ◌-◌, ◌^◌, ◌==◌, nat_eq, ℤ, pos, int_le, neg_ℤ, Bool, true, false, ◌&&◌, if◌then◌else◌, List, [], ◌∷◌, ◌++◌, drop, length, slice_index, codes, Option, Some, None}
 use Rattle.std.specs.Option.{option_map, option_and_then}
 use Rattle.std.specs.List.{starts_with}
@@ -39,7 +40,8 @@ ranged low high z = only_if (int_le low z && int_le z high) z
 
 -- the number of a field that is written so: no other digits and signs than its canonical ones
 abbrev pub canonical : List ℕ → Option ℤ
-canonical field = option_and_then (λ z. only_if (bytes_eq (signed_decimal z) field) z) (number_of field)
+canonical field =
+    option_and_then (λ z. only_if (bytes_eq (signed_decimal z) field) z) (number_of field)
 
 -- the same, from low to high
 abbrev pub canonical_within : ℤ → ℤ → List ℕ → Option ℤ
@@ -51,12 +53,14 @@ canonical_64 field = canonical_within (neg_ℤ (pos (2 ^ 63))) (pos (2 ^ 63 - 1)
 
 -- what stands after a word and one space
 abbrev pub after_word : List ℕ → List ℕ → Option (List ℕ)
-after_word word line = only_if (starts_with nat_eq line (word ++ 32 ∷ [])) (drop (length word + 1) line)
+after_word word line =
+    only_if (starts_with nat_eq line (word ++ 32 ∷ [])) (drop (length word + 1) line)
 
 -- what stands before the first space, and what after it
 abbrev pub at_space : List ℕ → Option (List ℕ × List ℕ)
 at_space [] = None
-at_space (b ∷ bs) = if b == 32 then Some ([], bs) else option_map (λ parts. (b ∷ parts.0, parts.1)) (at_space bs)
+at_space (b ∷ bs) =
+    if b == 32 then Some ([], bs) else option_map (λ parts. (b ∷ parts.0, parts.1)) (at_space bs)
 
 -- a line of a word and a number from low to high
 abbrev pub number_form : List ℕ → ℤ → ℤ → List ℕ → Option ℤ
@@ -65,7 +69,9 @@ number_form word low high line = option_and_then (canonical_within low high) (af
 -- two numbers with one space between them, each by its own form
 abbrev pub two_numbers : (List ℕ → Option ℤ) → List ℕ → Option (ℤ × ℤ)
 two_numbers number rest =
-    option_and_then (λ parts. option_and_then (λ a. option_map (λ b. (a, b)) (number parts.1)) (number parts.0)) (at_space rest)
+    option_and_then
+    (λ parts. option_and_then (λ a. option_map (λ b. (a, b)) (number parts.1)) (number parts.0))
+    (at_space rest)
 
 abbrev pub is_none : List ℕ → Bool
 is_none rest = bytes_eq rest (codes "none")
@@ -96,7 +102,8 @@ site_number field = canonical_within (neg_ℤ (pos farthest)) (pos farthest) fie
 abbrev pub site_in : List ℕ → Option (Option Pt)
 site_in rest =
     if is_none rest then Some None
-    else option_map (λ (c : ℤ × ℤ). Some (record { x = c.0; y = c.1 })) (two_numbers site_number rest)
+    else option_map (λ (c : ℤ × ℤ). Some (record { x = c.0; y = c.1 }))
+    (two_numbers site_number rest)
 
 abbrev pub site_form : List ℕ → Option (Option Pt)
 site_form line = option_and_then site_in (after_word (codes "site") line)
@@ -104,7 +111,9 @@ site_form line = option_and_then site_in (after_word (codes "site") line)
 -- the costs of the site: none exactly where there is no site
 abbrev pub costs_in : Option Pt → List ℕ → Option (Option Best)
 costs_in None rest = only_if (is_none rest) None
-costs_in (Some z) rest = option_map (λ (c : ℤ × ℤ). Some (record { site = z; lower = c.0; upper = c.1 })) (two_numbers canonical_64 rest)
+costs_in (Some z) rest =
+    option_map (λ (c : ℤ × ℤ). Some (record { site = z; lower = c.0; upper = c.1 }))
+    (two_numbers canonical_64 rest)
 
 abbrev pub cost_form : Option Pt → List ℕ → Option (Option Best)
 cost_form site line = option_and_then (costs_in site) (after_word (codes "cost") line)
@@ -149,7 +158,8 @@ lettered letter z =
 abbrev pub numbered_mark : List ℕ → Option Mark
 numbered_mark [] = None
 numbered_mark (letter ∷ []) = None
-numbered_mark (letter ∷ space ∷ rest) = if space == 32 then option_and_then (lettered letter) (canonical_64 rest) else None
+numbered_mark (letter ∷ space ∷ rest) =
+    if space == 32 then option_and_then (lettered letter) (canonical_64 rest) else None
 
 -- a node line, or the line "end"
 abbrev pub item_form : List ℕ → Option Item

@@ -53,14 +53,16 @@ abbrev pub formed : {T : Type 0} → (List ℕ → Option T) → Coming → Resu
 formed form r = and_then (answer_line r) (λ n. or_form (form n.0) n.1)
 
 -- a line before the lines of an instance
-abbrev pub add_line : List ℕ → Option (List (List ℕ) × List (List ℕ)) → Option (List (List ℕ) × List (List ℕ))
+abbrev pub add_line : List ℕ → Option (List (List ℕ) × List (List ℕ))
+    → Option (List (List ℕ) × List (List ℕ))
 add_line line None = None
 add_line line (Some parts) = Some (line ∷ parts.0, parts.1)
 
 -- the lines of an instance, up to its line "end", and what comes after them
 abbrev pub part_of : List (List ℕ) → Option (List (List ℕ) × List (List ℕ))
 part_of [] = None
-part_of (line ∷ lines) = if bytes_eq line (codes "end") then Some (line ∷ [], lines) else add_line line (part_of lines)
+part_of (line ∷ lines) =
+    if bytes_eq line (codes "end") then Some (line ∷ [], lines) else add_line line (part_of lines)
 
 abbrev pub same_version : Bool → Bool → Bool
 same_version a b = if a then b else if b then false else true
@@ -68,13 +70,15 @@ same_version a b = if a then b else if b then false else true
 -- an instance, where this is its canonical text, of the version that the first line said
 abbrev pub if_canonical : Bool → List ℕ → Result Instance InstanceFault → Option Instance
 if_canonical second bytes (Err fault) = None
-if_canonical second bytes (Ok i) = if bytes_eq (instance_text i) bytes && same_version second (has_cutoff i) then Some i else None
+if_canonical second bytes (Ok i) =
+    if bytes_eq (instance_text i) bytes && same_version second (has_cutoff i) then Some i else None
 
 abbrev pub or_bad_instance : Option Instance → Coming → Result (Instance × Coming) AnswerError
 or_bad_instance None r = Err BadInstance
 or_bad_instance (Some i) r = Ok (i, r)
 
-abbrev pub instance_in : Bool → Option (List (List ℕ) × List (List ℕ)) → Coming → Result (Instance × Coming) AnswerError
+abbrev pub instance_in : Bool → Option (List (List ℕ) × List (List ℕ)) → Coming
+    → Result (Instance × Coming) AnswerError
 instance_in second None r = Err (missing r.input (r.line + length r.input.lines + 1))
 instance_in second (Some parts) r =
     or_bad_instance (if_canonical second (bytes_of parts.0) (reading (bytes_of parts.0)))
@@ -90,12 +94,16 @@ pub record Limits : Type 0 where
   pub budget : ℕ
   pub pool : ℕ
 
+abbrev pub limits_from : ℤ → ℤ → ℤ → Limits
+limits_from gap budget pool =
+    record { gap = gap; budget = unsigned_abs budget; pool = unsigned_abs pool }
+
 abbrev pub limits_part : Coming → Result (Limits × Coming) AnswerError
 limits_part r =
     and_then (formed gap_form r) (λ gap.
     and_then (formed budget_form gap.1) (λ budget.
     and_then (formed pool_form budget.1) (λ pool.
-    Ok (record { gap = gap.0; budget = unsigned_abs budget.0; pool = unsigned_abs pool.0 }, pool.1))))
+    Ok (limits_from gap.0 budget.0 pool.0, pool.1))))
 
 -- the lines of the site and its costs
 abbrev pub best_part : Coming → Result (Option Best × Coming) AnswerError
@@ -108,13 +116,21 @@ pub record Outcome : Type 0 where
   pub open_count : ℕ
   pub leases : ℕ
 
+abbrev pub outcome_from : Option ℤ → Word → ℤ → ℤ → Outcome
+outcome_from bound word opened leases = record {
+  bound = bound;
+  word = word;
+  open_count = unsigned_abs opened;
+  leases = unsigned_abs leases;
+}
+
 abbrev pub outcome_part : Coming → Result (Outcome × Coming) AnswerError
 outcome_part r =
     and_then (formed bound_form r) (λ bound.
     and_then (formed word_form bound.1) (λ word.
     and_then (formed open_form word.1) (λ opened.
     and_then (formed leases_form opened.1) (λ leases.
-    Ok (record { bound = bound.0; word = word.0; open_count = unsigned_abs opened.0; leases = unsigned_abs leases.0 }, leases.1)))))
+    Ok (outcome_from bound.0 word.0 opened.0 leases.0, leases.1)))))
 
 abbrev pub head_from : Instance → Limits → Option Best → Outcome → Head
 head_from i limits best outcome =
@@ -139,7 +155,8 @@ lines_after i r =
     and_then (formed (root_form (root_of i)) outcome.1) (λ root.
     Ok (head_from i limits.0 best.0 outcome.0, root.1)))))
 
--- the head of an answer up to the line of its root, and what comes after it; or the first fault of its form
+-- the head of an answer up to the line of its root, and what comes after it; or the first fault of
+-- its form
 unfoldable pub head_reading : Coming → Result (Head × Coming) AnswerError
 head_reading r =
     and_then (formed version_form r) (λ version.

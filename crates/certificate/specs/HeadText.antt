@@ -8,7 +8,9 @@ use Rattle.line_stream.specs.Coming.{Coming}
 
 -- the lines of an answer with this head, up to the line of its root
 abbrev pub front_lines : Head → List (List (List ℕ))
-front_lines h = (codes "siting" ∷ codes "answer" ∷ version_field h.instance ∷ []) ∷ (instance_lines h.instance ++ head_lines h)
+front_lines h =
+    (codes "siting" ∷ codes "answer" ∷ version_field h.instance ∷ [])
+    ∷ (instance_lines h.instance ++ head_lines h)
 
 -- What is to come in `before` begins with these lines, and `after` is what comes after them.
 pub record BeginsWith (front : List (List ℕ)) (before after : Coming) : Type 0 where

@@ -19,9 +19,10 @@ pub fn no_text_is_of_two_answers()
         → All IsMark a.marks → All IsMark b.marks → answer_text a ≡ answer_text b → a ≡ b }
 {}
 
-/// Canonical texts are read, and no others. A head is read exactly where its canonical lines come and its fields are in
-/// their ranges. A line after the head is that of a mark exactly where it is the mark's canonical line and the mark's
-/// number is in its range, and the last line exactly where it is `end`.
+/// Canonical texts are read, and no others. A head is read exactly where its canonical lines come
+/// and its fields are in their ranges. A line after the head is that of a mark exactly where it is
+/// the mark's canonical line and the mark's number is in its range, and the last line exactly where
+/// it is `end`.
 pub fn texts_read_back()
     ensures head { (h : Head) (before after : Coming) → are_feedless before.input.lines ≡ true
         → head_reading before ≡ Ok (h, after) → IsHead h × IsHeadText h before after }
@@ -34,8 +35,8 @@ pub fn texts_read_back()
     ensures end { (line : List ℕ) → (item_form line ≡ Some End) ↔ (line ≡ codes "end") }
 {}
 
-/// A valid answer has at most 4,000,001 marks, and its text fewer than 100,000,000 bytes: at most 310,000, and 23 more for
-/// each mark.
+/// A valid answer has at most 4,000,001 marks, and its text fewer than 100,000,000 bytes: at most
+/// 310,000, and 23 more for each mark.
 pub fn valid_texts_are_short()
     ensures marks { (a : Answer) → IsValid a → length a.marks ≤ 4000001 }
     ensures bytes { (a : Answer) → IsValid a → length (answer_text a) < 100000000 }

@@ -5,6 +5,7 @@ ghost use Rattle.certificate.specs.Forms.{item_form as form_of_item};
 ghost use Rattle.certificate.specs.HeadReading.{answer_error, coming_of, formed, end_of};
 ghost use Rattle.certificate.specs.ReaderView.{coming, source_of, faults_of, line_of, stream_of, stream_over, ReadsTo, EndsAs, TakesNone};
 ghost use Rattle.certificate.specs.AnswerReading.{Read, EndRead};
+ghost use Rattle.certificate.specs.Beginnings.{start_of};
 ghost use Rattle.certificate.specs.Blames.{Blames};
 
 mod beginning;
@@ -47,7 +48,8 @@ pub enum AnswerError {
         /// The number of the line, from 1.
         line: u64,
     },
-    /// The lines of the instance aren't the canonical text of an instance of the version that the first line says.
+    /// The lines of the instance aren't the canonical text of an instance of the version that the
+    /// first line says.
     #[error("the instance in the answer isn't in canonical form")]
     Instance,
     /// More bytes came than an answer may have, which is 2^30, and no fault before.
@@ -76,9 +78,10 @@ impl From<LineError> for AnswerError {
 
 /// The text of an answer, read from a source line by line.
 ///
-/// It reads on only where it holds no whole line, so that what stands before a fault is answered without waiting for
-/// what comes after it. The head is read first, then one node line after another and the last line, and then `finish` is
-/// called. Reading the head alone takes memory. No call may follow one that failed.
+/// It reads on only where it holds no whole line, so that what stands before a fault is answered
+/// without waiting for what comes after it. The head is read first, then one node line after
+/// another and the last line, and then `finish` is called. Reading the head alone takes memory. No
+/// call may follow one that failed.
 #[derive(Drop)]
 pub struct AnswerReader<'a, S: Source> {
     source: &'a mut S,
@@ -90,7 +93,8 @@ impl<'a, S: Source> AnswerReader<'a, S> {
     pub fn new(source: &'a mut S) -> AnswerReader<'a, S>
         ensures same { source_of result ≡ source.entry.ghost_name }
         ensures coming { coming S.left result ≡ option_map coming_of (S.left source.old) }
-        ensures faults { faults_of S.faults result ≡ S.faults source.old }
+        ensures stream { stream_of S.left S.faults S.is_strict result
+            ≡ start_of (S.left source.old) (S.faults source.old) S.is_strict }
     {
         AnswerReader {
             source,
@@ -107,8 +111,8 @@ impl<'a, S: Source> AnswerReader<'a, S> {
         ensures blames { Blames (faults_of S.faults self.old) (faults_of S.faults self.new) result }
 
         // The bytes that were read settle the answer, and no more of them were read than that took.
-        ensures read { Read (formed form_of_item) (stream_of S.left S.faults self.old)
-            (stream_of S.left S.faults self.new) result }
+        ensures read { Read (formed form_of_item) (stream_of S.left S.faults S.is_strict self.old)
+            (stream_of S.left S.faults S.is_strict self.new) result }
     {
         read_item(&mut self.lines, self.source)
     }
@@ -128,8 +132,8 @@ impl<'a, S: Source> AnswerReader<'a, S> {
         ensures blames { Blames (faults_of S.faults self.entry) (S.faults self.exit.0.now) result }
 
         // As in `next`.
-        ensures read { EndRead (stream_of S.left S.faults self.entry)
-            (stream_over S.left S.faults self.entry self.exit.0.now) result }
+        ensures read { EndRead (stream_of S.left S.faults S.is_strict self.entry)
+            (stream_over S.left S.faults S.is_strict self.entry self.exit.0.now) result }
     {
         let AnswerReader { source, mut lines } = self;
         read_end(&mut lines, source)

@@ -25,7 +25,7 @@ pub fn write_answer<K: Sink>(
     out: &mut Out<K>,
 ) -> Result<(), WriteFault>
     requires { IsOpen out.old }
-    ensures { PutOn K.room K.taken K.faults out.old out.new
+    ensures { PutOn K.room K.taken K.faults K.is_strict out.old out.new
         (answer_text (record { head = head.now; marks = map mark_of nodes.now })) result }
 {
     write_first_line(&head.instance, out)?;
@@ -38,7 +38,7 @@ pub fn write_answer<K: Sink>(
 /// Writes the first line, which says the version of the text.
 fn write_first_line<K: Sink>(instance: &Instance, out: &mut Out<K>) -> Result<(), WriteFault>
     requires { IsOpen out.old }
-    ensures { PutOn K.room K.taken K.faults out.old out.new
+    ensures { PutOn K.room K.taken K.faults K.is_strict out.old out.new
         (line_text (codes "siting" ∷ codes "answer" ∷ version_field instance.now ∷ [])) result }
 {
     out.put_pieces(&[
@@ -58,7 +58,8 @@ fn version_bytes(instance: &Instance) -> &'static [u8]
 /// Writes the lines of the head that come after the instance's.
 fn write_head_lines<K: Sink>(head: &Head, out: &mut Out<K>) -> Result<(), WriteFault>
     requires { IsOpen out.old }
-    ensures { PutOn K.room K.taken K.faults out.old out.new (text_of (head_lines head.now)) result }
+    ensures { PutOn K.room K.taken K.faults K.is_strict out.old out.new
+        (text_of (head_lines head.now)) result }
 {
     write_limits(head.gap, head.budget, head.pool, out)?;
     write_best(head.site, head.cost, out)?;
@@ -75,7 +76,7 @@ fn write_limits<K: Sink>(
     out: &mut Out<K>,
 ) -> Result<(), WriteFault>
     requires { IsOpen out.old }
-    ensures { PutOn K.room K.taken K.faults out.old out.new
+    ensures { PutOn K.room K.taken K.faults K.is_strict out.old out.new
         (text_of ((codes "gap" ∷ signed_decimal gap ∷ [])
         ∷ number_line (codes "budget") budget
         ∷ number_line (codes "pool") pool
@@ -92,36 +93,6 @@ fn write_limits<K: Sink>(
     ])
 }
 
-/// Writes a site.
-fn write_site<K: Sink>(site: Site, out: &mut Out<K>) -> Result<(), WriteFault>
-    requires { IsOpen out.old }
-    ensures { PutOn K.room K.taken K.faults out.old out.new
-        (line_text (codes "site" ∷ signed_decimal site.x ∷ signed_decimal site.y ∷ [])) result }
-{
-    out.put_pieces(&[
-        Piece::Text(b"site "),
-        Piece::Number(site.x),
-        Piece::Text(b" "),
-        Piece::Number(site.y),
-        Piece::Text(b"\n"),
-    ])
-}
-
-/// Writes the lower and the upper cost of a site.
-fn write_cost<K: Sink>(lower: i64, upper: i64, out: &mut Out<K>) -> Result<(), WriteFault>
-    requires { IsOpen out.old }
-    ensures { PutOn K.room K.taken K.faults out.old out.new
-        (line_text (codes "cost" ∷ signed_decimal lower ∷ signed_decimal upper ∷ [])) result }
-{
-    out.put_pieces(&[
-        Piece::Text(b"cost "),
-        Piece::Number(lower),
-        Piece::Text(b" "),
-        Piece::Number(upper),
-        Piece::Text(b"\n"),
-    ])
-}
-
 /// Writes a site and its costs.
 fn write_priced<K: Sink>(
     site: Site,
@@ -130,13 +101,22 @@ fn write_priced<K: Sink>(
     out: &mut Out<K>,
 ) -> Result<(), WriteFault>
     requires { IsOpen out.old }
-    ensures { PutOn K.room K.taken K.faults out.old out.new
+    ensures { PutOn K.room K.taken K.faults K.is_strict out.old out.new
         (text_of ((codes "site" ∷ signed_decimal site.x ∷ signed_decimal site.y ∷ [])
         ∷ (codes "cost" ∷ signed_decimal lower ∷ signed_decimal upper ∷ [])
         ∷ [])) result }
 {
-    write_site(site, out)?;
-    write_cost(lower, upper, out)
+    out.put_pieces(&[
+        Piece::Text(b"site "),
+        Piece::Number(site.x),
+        Piece::Text(b" "),
+        Piece::Number(site.y),
+        Piece::Text(b"\ncost "),
+        Piece::Number(lower),
+        Piece::Text(b" "),
+        Piece::Number(upper),
+        Piece::Text(b"\n"),
+    ])
 }
 
 /// Writes the site and its costs, where there is one.
@@ -146,7 +126,7 @@ fn write_best<K: Sink>(
     out: &mut Out<K>,
 ) -> Result<(), WriteFault>
     requires { IsOpen out.old }
-    ensures { PutOn K.room K.taken K.faults out.old out.new
+    ensures { PutOn K.room K.taken K.faults K.is_strict out.old out.new
         (text_of (site_line (best_of site cost) ∷ cost_line (best_of site cost) ∷ [])) result }
 {
     match (site, cost) {
@@ -158,7 +138,7 @@ fn write_best<K: Sink>(
 /// Writes the bound.
 fn write_bound<K: Sink>(bound: Option<i64>, out: &mut Out<K>) -> Result<(), WriteFault>
     requires { IsOpen out.old }
-    ensures { PutOn K.room K.taken K.faults out.old out.new
+    ensures { PutOn K.room K.taken K.faults K.is_strict out.old out.new
         (line_text (optional_line (codes "bound") bound)) result }
 {
     match bound {
@@ -188,7 +168,7 @@ fn write_outcome<K: Sink>(
     out: &mut Out<K>,
 ) -> Result<(), WriteFault>
     requires { IsOpen out.old }
-    ensures { PutOn K.room K.taken K.faults out.old out.new
+    ensures { PutOn K.room K.taken K.faults K.is_strict out.old out.new
         (text_of ((codes "answer" ∷ word_field word ∷ [])
         ∷ number_line (codes "open") open_count
         ∷ number_line (codes "leases") leases
@@ -208,7 +188,8 @@ fn write_outcome<K: Sink>(
 /// Writes the root.
 fn write_root<K: Sink>(root: Square, out: &mut Out<K>) -> Result<(), WriteFault>
     requires { IsOpen out.old }
-    ensures { PutOn K.room K.taken K.faults out.old out.new (line_text (root_line root)) result }
+    ensures { PutOn K.room K.taken K.faults K.is_strict out.old out.new
+        (line_text (root_line root)) result }
 {
     out.put_pieces(&[
         Piece::Text(b"root "),
@@ -224,7 +205,7 @@ fn write_root<K: Sink>(root: Square, out: &mut Out<K>) -> Result<(), WriteFault>
 /// Writes a mark that has a number.
 fn write_bounded<K: Sink>(letter: &[u8], bound: i64, out: &mut Out<K>) -> Result<(), WriteFault>
     requires { IsOpen out.old }
-    ensures { PutOn K.room K.taken K.faults out.old out.new
+    ensures { PutOn K.room K.taken K.faults K.is_strict out.old out.new
         (letter.now ++ 32 ∷ (signed_decimal bound ++ 10 ∷ [])) result }
 {
     out.put_pieces(&[
@@ -238,7 +219,8 @@ fn write_bounded<K: Sink>(letter: &[u8], bound: i64, out: &mut Out<K>) -> Result
 /// Writes a node line.
 fn write_mark<K: Sink>(mark: Mark, out: &mut Out<K>) -> Result<(), WriteFault>
     requires { IsOpen out.old }
-    ensures { PutOn K.room K.taken K.faults out.old out.new (line_text (mark_line mark)) result }
+    ensures { PutOn K.room K.taken K.faults K.is_strict out.old out.new
+        (line_text (mark_line mark)) result }
 {
     match mark {
         Mark::Split(None) => out.put(b"S -\n"),
@@ -253,7 +235,8 @@ fn write_mark<K: Sink>(mark: Mark, out: &mut Out<K>) -> Result<(), WriteFault>
 /// Writes the node lines.
 fn write_marks<K: Sink>(nodes: &[Node], out: &mut Out<K>) -> Result<(), WriteFault>
     requires { IsOpen out.old }
-    ensures { PutOn K.room K.taken K.faults out.old out.new (flat_map node_text nodes.now) result }
+    ensures { PutOn K.room K.taken K.faults K.is_strict out.old out.new
+        (flat_map node_text nodes.now) result }
 {
     for node in nodes {
         write_mark(node.mark, out)?;

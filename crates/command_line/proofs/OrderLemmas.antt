@@ -39,6 +39,7 @@ list_all-failures : {X : Type 0} (test : X → Bool) (xs : List X) → list_all 
 list_all-failures test [] = refl
 list_all-failures test (x ∷ xs) = grind (arith, list_all-failures test xs, sum_by-cons (λ x. cond (test x) 0 1) x xs)
 
+-- the order of words doesn't change whether they all give values to these names
 same_names : (xs ys : List (List ℕ)) → IsPermutation xs ys → (names : List (List ℕ)) → has_only names xs ≡ has_only names ys
 same_names xs ys p names = same_all xs ys p _
   where

@@ -1,5 +1,7 @@
 -- What the words after the command say: each gives a value to a name, written with its `=`.
-use Rattle.std.specs.Prelude.{ℕ, ◌^◌, nat_le, nat_eq, Bool, if◌then◌else◌, ◌&&◌, pos, List, [], ◌∷◌, length, drop, filter_map, codes, Option, Some, None, option_map, option_and_then, unwrap_or}
+use Rattle.std.specs.Prelude.{ℕ, ◌^◌, nat_le, nat_eq, Bool, if◌then◌else◌, ◌&&◌, pos}
+use Rattle.std.specs.Prelude.{List, [], ◌∷◌, length, drop, filter_map, codes, Option}
+use Rattle.std.specs.Prelude.{Some, None, option_map, option_and_then, unwrap_or}
 use Rattle.std.specs.List.{list_all, list_any, starts_with}
 use Rattle.text_lines.specs.Numbers.{digits_of}
 use Rattle.siting_definitions.specs.declared.GapRule.{GapRule}
@@ -49,27 +51,34 @@ gap_rule_of (Some gap) None = Some (Fixed (pos gap))
 gap_rule_of None (Some ppm) = Some (Ppm ppm)
 gap_rule_of None None = Some (Ppm 1000)
 
+-- the rule for the gap that the words say
 abbrev pub gap_rule : List (List ℕ) → Option GapRule
 gap_rule words =
     option_and_then (λ gap. option_and_then (gap_rule_of gap)
     (setting (codes "ppm=") 0 1000000 words))
     (setting (codes "gap=") 0 (2 ^ 62) words)
 
+-- how many leases may be given: 0 to 1,000,000, and 100,000 where the words don't say
 abbrev pub budget_of : List (List ℕ) → Option ℕ
 budget_of words = number_or 100000 (setting (codes "budget=") 0 1000000 words)
 
+-- how many squares may be open: 1 to 1,000,000, and 100,000 where the words don't say
 abbrev pub pool_of : List (List ℕ) → Option ℕ
 pool_of words = number_or 100000 (setting (codes "pool=") 1 1000000 words)
 
+-- how many workers there are: 1 to 64, and 1 where the words don't say
 abbrev pub workers_of : List (List ℕ) → Option ℕ
 workers_of words = number_or 1 (setting (codes "workers=") 1 64 words)
 
+-- the seed, which the words have to say
 abbrev pub seed_of : List (List ℕ) → Option ℕ
 seed_of words = required_number (setting (codes "seed=") 0 2147483647 words)
 
+-- how many demand points are made, which the words have to say
 abbrev pub points_of : List (List ℕ) → Option ℕ
 points_of words = required_number (setting (codes "points=") 1 4096 words)
 
+-- the settings of these values
 abbrev pub settings_with : GapRule → ℕ → ℕ → ℕ → Settings
 settings_with gap budget pool workers =
     record { gap = gap; budget = budget; pool = pool; workers = workers }

@@ -1,5 +1,6 @@
 -- The command that the words are.
-use Rattle.std.specs.Prelude.{ℕ, if◌then◌else◌, List, [], ◌∷◌, bytes_eq, codes, Option, Some, None, option_map, option_and_then}
+use Rattle.std.specs.Prelude.{ℕ, if◌then◌else◌, List, [], ◌∷◌, bytes_eq, codes}
+use Rattle.std.specs.Prelude.{Option, Some, None, option_map, option_and_then}
 use Rattle.command_line.specs.declared.command.Command.{Command}
 use Rattle.command_line.specs.declared.command.Command.TheVariants.{Solve, Check, Make, Trial}
 use Rattle.command_line.specs.Settings.{has_only, settings_of, seed_of, points_of}
@@ -8,6 +9,7 @@ use Rattle.command_line.specs.Settings.{has_only, settings_of, seed_of, points_o
 abbrev pub command_with : List (List ℕ) → List (List ℕ) → Option Command → Option Command
 command_with names words command = if has_only names words then command else None
 
+-- solving the instance of the input
 unfoldable pub solve_of : List (List ℕ) → Option Command
 solve_of words =
     command_with
@@ -15,9 +17,11 @@ solve_of words =
     words
     (option_map Solve (settings_of words))
 
+-- checking the answer of the input
 unfoldable pub check_of : List (List ℕ) → Option Command
 check_of words = command_with [] words (Some Check)
 
+-- making an instance from a seed
 unfoldable pub make_of : List (List ℕ) → Option Command
 make_of words =
     command_with
@@ -25,6 +29,7 @@ make_of words =
     words
     (option_and_then (λ seed. option_map (Make seed) (points_of words)) (seed_of words))
 
+-- solving an instance that is made from a seed
 unfoldable pub trial_of : List (List ℕ) → Option Command
 trial_of words =
     command_with

@@ -1,8 +1,11 @@
 //! The command that the words are.
 //!
-//! The first word names the command, and each later one gives a value to a name, which is written with its `=`.
+//! The first word names the command, and each later one gives a value to a name, which is written
+//! with its `=`.
 
-ghost use Rattle.std.specs.Prelude.{◌≡◌, ◌^◌, ◌-◌, ◌<◌, ◌≤◌, [], ◌∷◌, ℕ, List, length, map, drop, IfSome, IfNone, Option, option_map, option_and_then, filter_map, Some, None};
+ghost use Rattle.std.specs.Prelude.{◌≡◌, ◌^◌, ◌-◌, ◌<◌, ◌≤◌, [], ◌∷◌, ℕ, List, length};
+ghost use Rattle.std.specs.Prelude.{map, drop, IfSome, IfNone, Option, option_map};
+ghost use Rattle.std.specs.Prelude.{option_and_then, filter_map, Some, None};
 ghost use Rattle.siting_definitions.specs.declared.GapRule.TheVariants.{Fixed, Ppm};
 ghost use Rattle.text_lines.specs.Numbers.{digits_of};
 ghost use Rattle.command_line.specs.Command.{has_team, IsGapRule, IsSettings, IsCommand};
@@ -163,7 +166,8 @@ fn value_after<'a>(word: &'a [u8], name: &[u8]) -> Option<&'a [u8]>
     word.strip_prefix(name)
 }
 
-/// The first value that is given to a name from word `start` on, and the index of the word after it.
+/// The first value that is given to a name from word `start` on, and the
+/// index of the word after it.
 fn next_value<'a>(words: &'a Argv, name: &[u8], start: usize) -> Option<(&'a [u8], usize)>
     ensures none { IfNone result (filter_map (value_in name.now) (drop start words.now) ≡ []) }
     ensures some { IfSome result (λ f. filter_map (value_in name.now) (drop start words.now)
@@ -177,8 +181,8 @@ fn next_value<'a>(words: &'a Argv, name: &[u8], start: usize) -> Option<(&'a [u8
     None
 }
 
-/// What the words after the first say of a name: nothing, or one number from `low` to `high`. None where they say it twice,
-/// or no such number.
+/// What the words after the first say of a name: nothing, or one number from `low` to `high`. None
+/// where they say it twice, or no such number.
 fn parse_setting(words: &Argv, name: &[u8], low: u64, high: u64) -> Option<Option<u64>>
     requires { high < 2 ^ 64 - 1 }
     ensures value { result ≡ setting name.now low high (drop 1 words.now) }

@@ -58,6 +58,7 @@ closed-first vs within =
     subst (λ z. (pos 0) ≤ℤ (z +ℤ cross (vertex vs 1) (vertex vs 0))) (next_edge vs 0 within)
     (there_and_back (vertex vs 0).x (vertex vs 0).y (vertex vs 1).x (vertex vs 1).y)
 
+-- the area of the first vertices, closed to a polygon, isn't below 0
 closed-not-below : (vs : List Place) (k : ℕ) → IsPolygon vs → k + 1 < length vs → (pos 0) ≤ℤ closed vs (k + 1)
 closed-not-below vs zero polygon within = closed-first vs within
 closed-not-below vs (suc k) polygon within =

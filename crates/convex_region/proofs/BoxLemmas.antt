@@ -9,12 +9,12 @@ use Rattle.std.proofs.lemmas.Int.{by_lt_z, fold-int_max_bounds, fold-int_min_bou
 use Rattle.std.proofs.lemmas.List.{get_or-map, length-map}
 use Rattle.std.proofs.lemmas.List.Elements.{All-get_or}
 use Rattle.std.proofs.lemmas.List.Sums.{AllPass-from_list_all}
-use borrow.Author.Differences.{up, down, ints}
+use borrow.Author.Differences.{up, down, ints, same_in}
 use Rattle.siting_definitions.specs.Integer.{least, greatest}
 use Rattle.siting_definitions.specs.Point.{Place, Point, grid, point_of, side}
 use Rattle.siting_definitions.specs.Polygon.{edges, vertex, next_of, origin, covers}
 use Rattle.siting_definitions.specs.Instance.{IsPolygon}
-use Rattle.siting_definitions.proofs.Integers.{diff, diffs, diff-eq, as_diff, mul_le_ℤ, scale_le_ℤ, mul_lt_ℤ, le_trans_ℤ, int_le-true}
+use Rattle.siting_definitions.proofs.Integers.{diff, diffs, diff-eq, as_diff, neg_mul_ℤ, mul_le_ℤ, scale_le_ℤ, mul_above_ℤ, le_trans_ℤ, int_le-true}
 use Rattle.convex_region.specs.Box.{LiesInBox}
 use Rattle.convex_region.proofs.Boxes.{x_of, y_of}
 use Rattle.convex_region.proofs.Edges.{edge_at, length-edges, beside, next-below}
@@ -61,35 +61,23 @@ not_above_product : (b s : ℤ) → b ≤ℤ (pos 0) → (pos 0) ≤ℤ s → (b
 not_above_product b (pos n) h k = let e : (b *ℤ pos n) ≤ℤ (pos 0 *ℤ pos n) = mul_le_ℤ b (pos 0) n h in omega (arith, ints, e)
 not_above_product b (negsuc n) h k = absurd (omega (arith, ints))
 
-above_product : (u k : ℤ) → (pos 0) <ℤ u → (pos 0) <ℤ k → (pos 0) <ℤ (u *ℤ k)
-above_product u (pos n) h k = let e : (pos 0 *ℤ pos n) <ℤ (u *ℤ pos n) = mul_lt_ℤ (pos 0) u n (omega (arith, ints)) h in omega (arith, ints, e)
-above_product u (negsuc n) h k = absurd (omega (arith, ints))
-
 -- ---- the cone
 cone : (u k a b s t : ℤ) → u *ℤ k ≡ b *ℤ s -ℤ a *ℤ t → (pos 0) <ℤ k → (pos 0) ≤ℤ a → b ≤ℤ (pos 0) → (pos 0) ≤ℤ s → (pos 0) ≤ℤ t → u ≤ℤ (pos 0)
 cone u k a b s t law left ahead back first second =
     by_lt_z (pos 0) u
     (λ above.
-    let e : (pos 0) <ℤ (b *ℤ s -ℤ a *ℤ t) = subst (λ z. (pos 0) <ℤ z) law (above_product u k above left) in
+    let e : (pos 0) <ℤ (b *ℤ s -ℤ a *ℤ t) = subst (λ z. (pos 0) <ℤ z) law (mul_above_ℤ u k above left) in
     let f = not_above_product b s back first in
     let g = not_below_product a t ahead second in
     absurd (omega (arith, ints, e, f, g)))
     (λ le. le)
 
-below_product : (u k : ℤ) → u <ℤ (pos 0) → (pos 0) <ℤ k → (u *ℤ k) <ℤ (pos 0)
-below_product u (pos n) h k = let e : (u *ℤ pos n) <ℤ (pos 0 *ℤ pos n) = mul_lt_ℤ u (pos 0) n (omega (arith, ints)) h in omega (arith, ints, e)
-below_product u (negsuc n) h k = absurd (omega (arith, ints))
-
 -- the same in the opposite direction
 cone_back : (u k a b s t : ℤ) → u *ℤ k ≡ b *ℤ s -ℤ a *ℤ t → (pos 0) <ℤ k → a ≤ℤ (pos 0) → (pos 0) ≤ℤ b → (pos 0) ≤ℤ s → (pos 0) ≤ℤ t → (pos 0) ≤ℤ u
 cone_back u k a b s t law left back ahead first second =
-    by_lt_z u (pos 0)
-    (λ below.
-    let e : (b *ℤ s -ℤ a *ℤ t) <ℤ (pos 0) = subst (λ z. z <ℤ (pos 0)) law (below_product u k below left) in
-    let f = not_below_product b s ahead first in
-    let g = not_above_product a t back second in
-    absurd (omega (arith, ints, e, f, g)))
-    (λ le. le)
+    let opposite : neg_ℤ u *ℤ k ≡ neg_ℤ b *ℤ s -ℤ neg_ℤ a *ℤ t = rw (neg_mul_ℤ u k, neg_mul_ℤ b s, neg_mul_ℤ a t, law) (same_in _ _ (omega (arith, ints))) in
+    let e = cone (neg_ℤ u) k (neg_ℤ a) (neg_ℤ b) s t opposite left (omega (arith, ints)) (omega (arith, ints)) first second in
+    omega (arith, ints, e)
 
 cone_x-diff : (ax ax' ay ay' bx bx' by by' px px' py py' : ℕ) → diff px px' *ℤ turn (diff ax ax') (diff ay ay') (diff bx bx') (diff by by') ≡ diff bx bx' *ℤ turn (diff ax ax') (diff ay ay') (diff px px') (diff py py') -ℤ diff ax ax' *ℤ turn (diff bx bx') (diff by by') (diff px px') (diff py py')
 cone_x-diff ax ax' ay ay' bx bx' by by' px px' py py' = simp diffs (diff-eq _ _ _ _ (omega arith))
@@ -123,48 +111,43 @@ turn_left a v b p m =
     above_0 : (k : ℤ) → (pos 0) <ℤ (k *ℤ pos 65536) → (pos 0) <ℤ k
     above_0 k e = omega (arith, ints)
 
+-- the two sides of the point, by its way from the vertex
+beside_first : (a v b : Place) (p : Point) → Meets a v b p → (pos 0) ≤ℤ turn (v.x -ℤ a.x) (v.y -ℤ a.y) (p.x -ℤ pos p.q *ℤ v.x) (p.y -ℤ pos p.q *ℤ v.y)
+beside_first a v b p m = subst (λ z. (pos 0) ≤ℤ z) (side_from_end a v p) m.first
+
+beside_second : (a v b : Place) (p : Point) → Meets a v b p → (pos 0) ≤ℤ turn (b.x -ℤ v.x) (b.y -ℤ v.y) (p.x -ℤ pos p.q *ℤ v.x) (p.y -ℤ pos p.q *ℤ v.y)
+beside_second a v b p m = subst (λ z. (pos 0) ≤ℤ z) (side_from_start v b p) m.second
+
 -- a point of the polygon isn't to the right of a vertex that is farthest right among its neighbours
 not_right : (a v b : Place) (p : Point) → Meets a v b p → a.x ≤ℤ v.x → b.x ≤ℤ v.x → p.x ≤ℤ (pos p.q *ℤ v.x)
 not_right a v b p m ha hb =
-    let first = subst (λ z. (pos 0) ≤ℤ z) (side_from_end a v p) m.first in
-    let second = subst (λ z. (pos 0) ≤ℤ z) (side_from_start v b p) m.second in
-    let u = p.x -ℤ pos p.q *ℤ v.x in
-    let e : u ≤ℤ (pos 0) =
-    cone u _ (v.x -ℤ a.x) (b.x -ℤ v.x) _ _ (cone_x (v.x -ℤ a.x) (v.y -ℤ a.y) (b.x -ℤ v.x) (b.y -ℤ v.y) u (p.y -ℤ pos p.q *ℤ v.y))
-    (turn_left a v b p m) (omega (arith, ints)) (omega (arith, ints)) first second in
+    let e = cone (p.x -ℤ pos p.q *ℤ v.x) _ (v.x -ℤ a.x) (b.x -ℤ v.x) _ _
+    (cone_x (v.x -ℤ a.x) (v.y -ℤ a.y) (b.x -ℤ v.x) (b.y -ℤ v.y) (p.x -ℤ pos p.q *ℤ v.x) (p.y -ℤ pos p.q *ℤ v.y))
+    (turn_left a v b p m) (omega (arith, ints)) (omega (arith, ints)) (beside_first a v b p m) (beside_second a v b p m) in
     omega (arith, ints, e)
 
 -- nor above one that is highest
 not_above : (a v b : Place) (p : Point) → Meets a v b p → a.y ≤ℤ v.y → b.y ≤ℤ v.y → p.y ≤ℤ (pos p.q *ℤ v.y)
 not_above a v b p m ha hb =
-    let first = subst (λ z. (pos 0) ≤ℤ z) (side_from_end a v p) m.first in
-    let second = subst (λ z. (pos 0) ≤ℤ z) (side_from_start v b p) m.second in
-    let u = p.y -ℤ pos p.q *ℤ v.y in
-    let e : u ≤ℤ (pos 0) =
-    cone u _ (v.y -ℤ a.y) (b.y -ℤ v.y) _ _ (cone_y (v.x -ℤ a.x) (v.y -ℤ a.y) (b.x -ℤ v.x) (b.y -ℤ v.y) (p.x -ℤ pos p.q *ℤ v.x) u)
-    (turn_left a v b p m) (omega (arith, ints)) (omega (arith, ints)) first second in
+    let e = cone (p.y -ℤ pos p.q *ℤ v.y) _ (v.y -ℤ a.y) (b.y -ℤ v.y) _ _
+    (cone_y (v.x -ℤ a.x) (v.y -ℤ a.y) (b.x -ℤ v.x) (b.y -ℤ v.y) (p.x -ℤ pos p.q *ℤ v.x) (p.y -ℤ pos p.q *ℤ v.y))
+    (turn_left a v b p m) (omega (arith, ints)) (omega (arith, ints)) (beside_first a v b p m) (beside_second a v b p m) in
     omega (arith, ints, e)
 
 -- nor to the left of one that is farthest left
 not_left : (a v b : Place) (p : Point) → Meets a v b p → neg_ℤ a.x ≤ℤ neg_ℤ v.x → neg_ℤ b.x ≤ℤ neg_ℤ v.x → (pos p.q *ℤ v.x) ≤ℤ p.x
 not_left a v b p m ha hb =
-    let first = subst (λ z. (pos 0) ≤ℤ z) (side_from_end a v p) m.first in
-    let second = subst (λ z. (pos 0) ≤ℤ z) (side_from_start v b p) m.second in
-    let u = p.x -ℤ pos p.q *ℤ v.x in
-    let e : (pos 0) ≤ℤ u =
-    cone_back u _ (v.x -ℤ a.x) (b.x -ℤ v.x) _ _ (cone_x (v.x -ℤ a.x) (v.y -ℤ a.y) (b.x -ℤ v.x) (b.y -ℤ v.y) u (p.y -ℤ pos p.q *ℤ v.y))
-    (turn_left a v b p m) (omega (arith, ints)) (omega (arith, ints)) first second in
+    let e = cone_back (p.x -ℤ pos p.q *ℤ v.x) _ (v.x -ℤ a.x) (b.x -ℤ v.x) _ _
+    (cone_x (v.x -ℤ a.x) (v.y -ℤ a.y) (b.x -ℤ v.x) (b.y -ℤ v.y) (p.x -ℤ pos p.q *ℤ v.x) (p.y -ℤ pos p.q *ℤ v.y))
+    (turn_left a v b p m) (omega (arith, ints)) (omega (arith, ints)) (beside_first a v b p m) (beside_second a v b p m) in
     omega (arith, ints, e)
 
 -- nor below one that is lowest
 not_below : (a v b : Place) (p : Point) → Meets a v b p → neg_ℤ a.y ≤ℤ neg_ℤ v.y → neg_ℤ b.y ≤ℤ neg_ℤ v.y → (pos p.q *ℤ v.y) ≤ℤ p.y
 not_below a v b p m ha hb =
-    let first = subst (λ z. (pos 0) ≤ℤ z) (side_from_end a v p) m.first in
-    let second = subst (λ z. (pos 0) ≤ℤ z) (side_from_start v b p) m.second in
-    let u = p.y -ℤ pos p.q *ℤ v.y in
-    let e : (pos 0) ≤ℤ u =
-    cone_back u _ (v.y -ℤ a.y) (b.y -ℤ v.y) _ _ (cone_y (v.x -ℤ a.x) (v.y -ℤ a.y) (b.x -ℤ v.x) (b.y -ℤ v.y) (p.x -ℤ pos p.q *ℤ v.x) u)
-    (turn_left a v b p m) (omega (arith, ints)) (omega (arith, ints)) first second in
+    let e = cone_back (p.y -ℤ pos p.q *ℤ v.y) _ (v.y -ℤ a.y) (b.y -ℤ v.y) _ _
+    (cone_y (v.x -ℤ a.x) (v.y -ℤ a.y) (b.x -ℤ v.x) (b.y -ℤ v.y) (p.x -ℤ pos p.q *ℤ v.x) (p.y -ℤ pos p.q *ℤ v.y))
+    (turn_left a v b p m) (omega (arith, ints)) (omega (arith, ints)) (beside_first a v b p m) (beside_second a v b p m) in
     omega (arith, ints, e)
 
 -- ---- the vertex before another, and a farthest vertex

@@ -33,6 +33,7 @@ pub length-edges : (vs : List Place) → length (edges vs) ≡ length vs
 length-edges [] = refl
 length-edges (v ∷ vs) = length-zip (v ∷ vs) (vs ++ v ∷ []) ∙ omega (arith, length-append vs (v ∷ []))
 
+-- the vertices from the second on, and then the first: each is the next one of its index
 turned_at : (v : Place) (vs : List Place) (i : ℕ) → i < length (v ∷ vs) → get_or (vs ++ v ∷ []) i origin ≡ vertex (v ∷ vs) (next_of (length (v ∷ vs)) i)
 turned_at v vs i h =
     ⊎_elim

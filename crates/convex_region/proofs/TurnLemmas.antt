@@ -6,7 +6,7 @@ use Rattle.std.specs.Prelude.{unsigned_abs}
 use borrow.Author.Differences.{up, down, ints, same_in}
 use Rattle.siting_definitions.specs.Point.{Place, grid, point_of, side}
 use Rattle.siting_definitions.specs.Polygon.{vertex, next_of, IsConvex}
-use Rattle.siting_definitions.proofs.Integers.{diff, diffs, diff-eq, as_diff, mul_le_ℤ, mul_lt_ℤ, mul_comm_ℤ}
+use Rattle.siting_definitions.proofs.Integers.{diff, diffs, diff-eq, as_diff, mul_le_ℤ, mul_above_ℤ, mul_comm_ℤ}
 use Rattle.convex_region.specs.Turns.{IsLeft, TurnsLeft}
 use Rattle.convex_region.specs.Dent.{IsDent}
 use Rattle.convex_region.proofs.Edges.{next_below, next_last, IsConvex-by_dents}
@@ -29,13 +29,6 @@ four_vectors ux uy ax ay bx by cx cy =
 size_of_above : (z : ℤ) → pos 0 <ℤ z → z ≡ pos (unsigned_abs z)
 size_of_above z h = same_in _ _ (omega (arith, ints))
 
-product_above : (p q : ℤ) → pos 0 <ℤ p → pos 0 <ℤ q → pos 0 <ℤ (p *ℤ q)
-product_above p q hp hq =
-    let is : q ≡ pos (unsigned_abs q) = size_of_above q hq in
-    let some : 1 ≤ unsigned_abs q = omega (arith, ints) in
-    let less : (pos 0 *ℤ pos (unsigned_abs q)) <ℤ (p *ℤ pos (unsigned_abs q)) = mul_lt_ℤ (pos 0) p (unsigned_abs q) some hp in
-    rw (is) (omega (arith, ints, less))
-
 product_not_above : (x z : ℤ) → pos 0 <ℤ x → z ≤ℤ pos 0 → (x *ℤ z) ≤ℤ pos 0
 product_not_above x z hx hz =
     let is : x ≡ pos (unsigned_abs x) = size_of_above x hx in
@@ -47,7 +40,7 @@ factor_above : (x z p q r s : ℤ) → x *ℤ z ≡ p *ℤ q +ℤ r *ℤ s → p
 factor_above x z p q r s is hx hp hq hr hs =
     by_lt_z (pos 0) z
     (λ above. above)
-    (λ not. absurd (omega (arith, ints, is, product_not_above x z hx not, product_above p q hp hq, product_above r s hr hs)))
+    (λ not. absurd (omega (arith, ints, is, product_not_above x z hx not, mul_above_ℤ p q hp hq, mul_above_ℤ r s hr hs)))
 
 -- ---- three places
 -- twice the signed area of the triangle a b c, in square lengths

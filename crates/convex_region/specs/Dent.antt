@@ -5,7 +5,9 @@ use Rattle.siting_definitions.specs.Polygon.{vertex, next_of, turned}
 use Rattle.siting_definitions.specs.Instance.{IsPolygon}
 use Rattle.siting_definitions.specs.declared.TheConstants.{VERTEX_LIMIT}
 use Rattle.convex_region.specs.declared.build.PolygonFault.{PolygonFault}
-use Rattle.convex_region.specs.declared.build.PolygonFault.TheVariants.{TooFewVertices, TooManyVertices, NoMemory, NotConvex}
+use Rattle.convex_region.specs.declared.build.PolygonFault.TheVariants.{TooFewVertices}
+use Rattle.convex_region.specs.declared.build.PolygonFault.TheVariants.{TooManyVertices}
+use Rattle.convex_region.specs.declared.build.PolygonFault.TheVariants.{NoMemory, NotConvex}
 
 -- vertex j is neither start nor end of edge i, and doesn't lie strictly to its left
 pub record IsDent (vs : List Place) (i j : ℕ) : Type 0 where

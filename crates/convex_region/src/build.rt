@@ -1,6 +1,8 @@
 //! Building polygons.
 
-ghost use Rattle.std.specs.Prelude.{◌≡◌, ◌<◌, ◌≤◌, ◌↔◌, ℕ, ℤ, pos, ◌+ℤ◌, ◌-ℤ◌, ◌*ℤ◌, ◌++◌, length, map, take, drop, reverse, IsTrue, IfOk, IfSome, IfNone, All, unsigned_abs};
+ghost use Rattle.std.specs.Prelude.{◌≡◌, ◌<◌, ◌≤◌, ◌↔◌, ℕ, ℤ, pos, ◌+ℤ◌, ◌-ℤ◌};
+ghost use Rattle.std.specs.Prelude.{◌*ℤ◌, ◌++◌, length, map, take, drop, reverse};
+ghost use Rattle.std.specs.Prelude.{IsTrue, IfOk, IfSome, IfNone, All, unsigned_abs};
 ghost use Rattle.siting_definitions.specs.Integer.{least, greatest};
 ghost use Rattle.siting_definitions.specs.Point as points;
 ghost use Rattle.siting_definitions.specs.Polygon as polygons;
@@ -13,7 +15,7 @@ ghost use Rattle.convex_region.specs.Dent.{IsDent, IsFirstDent, Builds};
 use crate::polygon::{Polygon, next_of, side_at};
 use crate::turns::is_convex;
 use exact_geometry::{Extent, Place};
-use siting_definitions::VERTEX_LIMIT;
+use siting_definitions::{UNIT, VERTEX_LIMIT};
 use std::alloc::{AllocError, Global};
 
 /// Why a list of places is no polygon.
@@ -25,8 +27,8 @@ pub enum PolygonFault {
     TooManyVertices,
     /// Memory ran out for the vertices.
     NoMemory,
-    /// Vertex `vertex`, which is no end of edge `edge`, doesn't lie strictly to its left: the first such pair, in order
-    /// of edge and then vertex, of the list after turning.
+    /// Vertex `vertex`, which is no end of edge `edge`, doesn't lie strictly to its left: the first
+    /// such pair, in order of edge and then vertex, of the list after turning.
     NotConvex {
         /// The edge from vertex `edge` to the next one.
         edge: u8,
@@ -36,10 +38,12 @@ pub enum PolygonFault {
 }
 
 impl Polygon {
-    /// The polygon with these corners, turned to be counter-clockwise: the first corner stays first.
+    /// The polygon with these corners, turned to be counter-clockwise: the
+    /// first corner stays first.
     ///
-    /// `TooFewVertices` exactly for fewer than 3 corners, `TooManyVertices` exactly for more than 64. Of the others
-    /// `NotConvex` only where the turned list isn't convex, and `NoMemory` where memory ran out.
+    /// `TooFewVertices` exactly for fewer than 3 corners, `TooManyVertices` exactly for more than
+    /// 64. Of the others `NotConvex` only where the turned list isn't convex, and `NoMemory` where
+    /// memory ran out.
     pub fn build(alloc: Global, corners: &[Place]) -> Result<Polygon, PolygonFault>
         ensures { Builds corners.now result }
     {
@@ -138,7 +142,8 @@ fn dent_at(vertices: &[Place], i: usize) -> Option<usize>
     None
 }
 
-/// The first dent, as edge and vertex. It is looked for only where one pass doesn't show that there is none.
+/// The first dent, as edge and vertex. It is looked for only where one pass doesn't
+/// show that there is none.
 fn dent_of(vertices: &[Place]) -> Option<(usize, usize)>
     ensures none { IfNone result ((i j : ℕ) → ¬ (IsDent vertices.now i j)) }
     ensures some { IfSome result (λ d. IsFirstDent vertices.now d.0 d.1) }
@@ -180,9 +185,9 @@ fn box_of(vertices: &[Place]) -> Extent
         y1 = y1.max(v.y);
     }
     Extent {
-        x0: 65536 * x0 as i64,
-        y0: 65536 * y0 as i64,
-        x1: 65536 * x1 as i64,
-        y1: 65536 * y1 as i64,
+        x0: UNIT as i64 * x0 as i64,
+        y0: UNIT as i64 * y0 as i64,
+        x1: UNIT as i64 * x1 as i64,
+        y1: UNIT as i64 * y1 as i64,
     }
 }

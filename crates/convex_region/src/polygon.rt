@@ -12,7 +12,8 @@ use exact_geometry::{Extent, Place, Pt, side};
 use std::alloc::AllocError;
 use std::marker::Model;
 
-/// A convex polygon: 3 to 64 places, counter-clockwise, each strictly to the left of each edge that it isn't an end of.
+/// A convex polygon: 3 to 64 places, counter-clockwise, each strictly to the left of each edge that
+/// it isn't an end of.
 #[derive(Debug, Drop)]
 pub struct Polygon {
     pub(crate) vertices: Vec<Place>,

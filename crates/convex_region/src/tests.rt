@@ -22,7 +22,8 @@ fn a_pentagram_turns_twice(rt: HostRuntime) {
     assert_eq!(rt; dent, Some(PolygonFault::NotConvex { edge: 0, vertex: 3 }));
 }
 
-/// It turns left at each corner, and each edge has corner 0 to its left, but it goes round corner 0.
+/// It turns left at each corner, and each edge has corner 0 to its left,
+/// but it goes round corner 0.
 #[test]
 fn a_spiral_turns_twice(rt: HostRuntime) {
     let spiral = [
@@ -142,7 +143,8 @@ fn points_of_a_triangle_and_of_its_mirror_image(rt: HostRuntime) {
             y1: 131072
         }
     );
-    // A point and its mirror image, whether the closed triangles hold them, and whether their interiors do.
+    // A point and its mirror image, whether the closed triangles hold them, and whether their
+    // interiors do.
     let table = [
         (Pt::of(65536, 65536), Pt::of(-65536, 65536), true, true),
         // A vertex, a point of each side, and points just beside each.

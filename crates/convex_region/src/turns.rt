@@ -6,7 +6,8 @@ ghost use Rattle.convex_region.specs.Turns.{IsLeft, TurnsLeft};
 
 use exact_geometry::{Place, side};
 
-/// Whether the list has no dent: each vertex in turn leaves the polygon of the vertices up to it convex.
+/// Whether the list has no dent: each vertex in turn leaves the polygon of the
+/// vertices up to it convex.
 pub(crate) fn is_convex(vertices: &[Place]) -> bool
     ensures { IsTrue result ↔ ((i j : ℕ) → ¬ (IsDent vertices.now i j)) }
 {
@@ -18,7 +19,8 @@ pub(crate) fn is_convex(vertices: &[Place]) -> bool
     true
 }
 
-/// Whether the polygon of the vertices up to vertex `i` turns left at vertex `i` and at the vertices beside it.
+/// Whether the polygon of the vertices up to vertex `i` turns left at vertex `i` and at the
+/// vertices beside it.
 fn turns_left(vertices: &[Place], i: usize) -> bool
     requires some { 2 ≤ i }
     requires within { i < length vertices.now }

@@ -3,6 +3,7 @@
 use Rattle.std.specs.Prelude.{ℕ, List}
 use Rattle.discard_log.specs.declared.node.Node.{Node}
 
+-- the nodes, and the room for more
 pub record LogView : Type 0 where
   pub nodes : List Node
   pub spare : ℕ

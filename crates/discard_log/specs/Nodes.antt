@@ -9,6 +9,7 @@ use Rattle.discard_log.specs.declared.node.Node.{Node}
 abbrev pub tree_square : Node → TreeSquare
 tree_square n = record { square = n.square; is_split = is_split n.mark }
 
+-- a node's mark
 abbrev pub mark_of : Node → Mark
 mark_of n = n.mark
 

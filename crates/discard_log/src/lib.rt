@@ -1,4 +1,5 @@
-//! What became of the squares of a tree: nodes with marks, logged in any order and sorted into preorder in place.
+//! What became of the squares of a tree: nodes with marks, logged in any order and sorted into
+//! preorder in place.
 #![tactic(auto)]
 
 mod log;

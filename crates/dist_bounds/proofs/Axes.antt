@@ -1,5 +1,5 @@
 -- What the code computes on one axis is what the definitions say of it.
-use Rattle.std.proofs.Common.{◌≡◌, ℕ, ◌+◌, ◌*◌, ◌^◌, ◌≤◌, max, ℤ, pos, ◌+ℤ◌, ◌-ℤ◌, ◌*ℤ◌, ◌≤ℤ◌, w32, w64, to_z, of_z, ap, ◌∙◌, arith}
+use Rattle.std.proofs.Common.{◌≡◌, ℕ, ◌+◌, ◌*◌, ◌^◌, ◌≤◌, max, ℤ, pos, ◌+ℤ◌, ◌-ℤ◌, ◌*ℤ◌, ◌≤ℤ◌, w32, w64, to_z, of_z, sym, ap, ◌∙◌, arith}
 use Rattle.std.specs.Prelude.{unsigned_abs}
 use Rattle.std.specs.Int.{int_max}
 use Rattle.std.proofs.lemmas.Int.{ints, clamps}
@@ -7,7 +7,7 @@ use borrow.Author.Differences.{same_in}
 use Rattle.siting_definitions.specs.Instance.{IsCoordinate}
 use Rattle.siting_definitions.specs.Point.{Place, Pt, point_of}
 use Rattle.siting_definitions.specs.Cost.{distance2}
-use Rattle.siting_definitions.specs.Square.{Square}
+use Rattle.siting_definitions.specs.Square.{Square, IsSquare}
 use Rattle.siting_definitions.specs.Bounds.{near_on, far_on, near2, far2}
 
 -- a number that was passed to a function
@@ -48,11 +48,20 @@ greatest_way low high a m n l h s em en =
     let same = small-passed (int_max (pos 0) greater) (greatest_small (pos 0) greater zero_small small) in
     ap (λ z. unsigned_abs (passed z)) is_too ∙ ap (λ z. unsigned_abs z) same
 
+-- from low on, a span of this length within the limits of squares, with the side as the code has it
 pub record IsSpan (low side : ℤ) (len : ℕ) : Type 0 where
   pub length : side ≡ pos len
   pub short : side ≤ℤ pos (2 ^ 37)
   pub start : pos 0 ≤ℤ (low +ℤ pos (2 ^ 38))
   pub stop : (low +ℤ pos len) ≤ℤ pos (2 ^ 38)
+
+-- the two spans of a square, by its side, which the code took of an equal square
+pub spans_of : (s t : Square) (side : ℤ) → IsSquare s → s ≡ t → side ≡ pos (2 ^ t.level) → side ≤ℤ pos (2 ^ 37) → IsSpan s.x side (2 ^ s.level) × IsSpan s.y side (2 ^ s.level)
+spans_of s t side is same length short =
+    let side_is = length ∙ ap (λ (t : Square). pos (2 ^ t.level)) (sym same) in (
+      record { length = side_is; short = short; start = is.left; stop = is.right },
+      record { length = side_is; short = short; start = is.lower; stop = is.upper },
+    )
 
 start-passed : (low side : ℤ) (len : ℕ) → IsSpan low side len → passed low ≡ low
 start-passed low side len h = omega (arith, ints)

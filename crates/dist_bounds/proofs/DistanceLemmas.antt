@@ -47,6 +47,7 @@ near_above : (low high a h : ℤ) (q : ℕ) → h ≤ℤ (pos q *ℤ high) → (
 near_above low high a h q at_most nonneg =
     le_size_neg (q * unsigned_abs (a -ℤ high)) (h -ℤ pos q *ℤ a) (rw (times_size q (a -ℤ high) nonneg, mul_minus_ℤ (pos q) a high) (omega (arith, ints)))
 
+-- no coordinate from low to high is nearer to a than the nearest way says
 near_axis : (low high a h : ℤ) (q : ℕ) → (pos q *ℤ low) ≤ℤ h → h ≤ℤ (pos q *ℤ high) → q * unsigned_abs (int_max (pos 0) (int_max (low -ℤ a) (a -ℤ high))) ≤ unsigned_abs (h -ℤ pos q *ℤ a)
 near_axis low high a h q at_least at_most =
     let P : ℤ → Type 0 = λ z. pos 0 ≤ℤ z → q * unsigned_abs z ≤ unsigned_abs (h -ℤ pos q *ℤ a) in
@@ -60,6 +61,7 @@ far_up q z n h =
     let f : q * unsigned_abs z ≤ q * n = mul-le-mul_left q h in
     rw (mul_comm_ℤ (pos q) z) (omega (arith, ints, e, f))
 
+-- a number of this size at most, times q, from below
 far_down : (q : ℕ) (z : ℤ) (n : ℕ) → unsigned_abs z ≤ n → neg_ℤ (pos q *ℤ z) ≤ℤ pos (q * n)
 far_down q z n h =
     let e : (neg_ℤ z *ℤ pos q) ≤ℤ (pos (unsigned_abs z) *ℤ pos q) = mul_le_ℤ _ _ q (neg_le_size z) in
@@ -68,6 +70,7 @@ far_down q z n h =
     let g' : down (neg_ℤ z) * q ≡ up z * q = ap (λ n. n * q) (neg_is z).1 in
     omega (arith, ints, e, f, g, g')
 
+-- and none is farther than the farther end
 far_axis : (low high a h : ℤ) (q : ℕ) → (pos q *ℤ low) ≤ℤ h → h ≤ℤ (pos q *ℤ high) → unsigned_abs (h -ℤ pos q *ℤ a) ≤ q * max (unsigned_abs (low -ℤ a)) (unsigned_abs (high -ℤ a))
 far_axis low high a h q at_least at_most =
     let n = max (unsigned_abs (low -ℤ a)) (unsigned_abs (high -ℤ a)) in

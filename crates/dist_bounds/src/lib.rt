@@ -1,10 +1,13 @@
-//! Squared distances from a place: the least and the greatest to a closed square of the grid, and the one to a grid point.
+//! Squared distances from a place: the least and the greatest to a closed square of the grid, and
+//! the one to a grid point.
 //!
 //! All are exact, in grid units squared, of which 2^32 make a square length.
 #![tactic(auto)]
 
-ghost use Rattle.std.specs.Prelude.{◌≡◌, ◌*◌, ◌+◌, ◌^◌, ◌<◌, ◌≤◌, pos, ◌-ℤ◌, ◌*ℤ◌, unsigned_abs, max, true};
+ghost use Rattle.std.specs.Prelude.{◌≡◌, ◌*◌, ◌+◌, ◌^◌, ◌<◌, ◌≤◌, pos};
+ghost use Rattle.std.specs.Prelude.{◌-ℤ◌, ◌*ℤ◌, unsigned_abs, max, true};
 ghost use Rattle.std.specs.Int.{int_max};
+ghost use Rattle.siting_definitions.specs.declared.TheConstants.{COORDINATE_LIMIT, UNIT};
 ghost use Rattle.siting_definitions.specs.Point.{Point, point_of};
 ghost use Rattle.siting_definitions.specs.Instance.{IsCoordinate};
 ghost use Rattle.siting_definitions.specs.Cost.{distance2};
@@ -17,6 +20,7 @@ mod tests;
 
 use dyadic_square::Square;
 use exact_geometry::{Place, Pt};
+use siting_definitions::UNIT;
 
 /// The least squared distance from `a` to the closed square, in grid units squared.
 pub fn near2(sq: Square, a: Place) -> u128
@@ -46,8 +50,8 @@ pub fn far2(sq: Square, a: Place) -> u128
     )
 }
 
-/// The squared distance from `a` to the grid point `z`, in grid units squared. Each coordinate of `z` is at most 2^38 in
-/// size.
+/// The squared distance from `a` to the grid point `z`, in grid units squared. Each coordinate of
+/// `z` is at most 2^38 in size.
 pub fn distance2(z: Pt, a: Place) -> u128
     requires x { IsWithinSquares z.x }
     requires y { IsWithinSquares z.y }
@@ -61,10 +65,10 @@ pub fn distance2(z: Pt, a: Place) -> u128
 #[inline(always)]
 fn on_grid(v: i32) -> i64
     requires { IsCoordinate v }
-    ensures value { result ≡ pos 65536 *ℤ v }
-    ensures size { unsigned_abs result ≤ 65536000000 }
+    ensures value { result ≡ pos UNIT *ℤ v }
+    ensures size { unsigned_abs result ≤ UNIT * COORDINATE_LIMIT }
 {
-    65536 * v as i64
+    UNIT as i64 * v as i64
 }
 
 /// How far `a` lies outside of the span from `low` to `high`, in grid units.
@@ -72,7 +76,7 @@ fn on_grid(v: i32) -> i64
 fn way_outside(low: i64, high: i64, a: i64) -> u64
     requires low { IsWithinSquares low }
     requires high { IsWithinSquares high }
-    requires a { unsigned_abs a ≤ 65536000000 }
+    requires a { unsigned_abs a ≤ UNIT * COORDINATE_LIMIT }
     ensures value { result ≡ unsigned_abs (int_max (pos 0) (int_max (low -ℤ a) (a -ℤ high))) }
     ensures size { result ≤ longest_way }
 {
@@ -84,7 +88,7 @@ fn way_outside(low: i64, high: i64, a: i64) -> u64
 fn way_to_far_end(low: i64, high: i64, a: i64) -> u64
     requires low { IsWithinSquares low }
     requires high { IsWithinSquares high }
-    requires a { unsigned_abs a ≤ 65536000000 }
+    requires a { unsigned_abs a ≤ UNIT * COORDINATE_LIMIT }
     ensures value { result ≡ max (unsigned_abs (low -ℤ a)) (unsigned_abs (high -ℤ a)) }
     ensures size { result ≤ longest_way }
 {
@@ -95,7 +99,7 @@ fn way_to_far_end(low: i64, high: i64, a: i64) -> u64
 #[inline(always)]
 fn way(z: i64, a: i64) -> u64
     requires z { IsWithinSquares z }
-    requires a { unsigned_abs a ≤ 65536000000 }
+    requires a { unsigned_abs a ≤ UNIT * COORDINATE_LIMIT }
     ensures value { result ≡ unsigned_abs (z -ℤ a) }
     ensures size { result ≤ longest_way }
 {

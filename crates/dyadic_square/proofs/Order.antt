@@ -31,6 +31,7 @@ half_begins from low place level false above e =
     let twice : place * 2 ^ level ≡ place * (2 ^ (level - 1) + 2 ^ (level - 1)) = ap (λ n. place * n) (two_halves level above) in
     omega (arith, ints)
 
+-- the quarters of an aligned square are aligned
 pub aligned-quarter : (root s : Square) (i : ℕ) → 0 < s.level → IsAligned root s → IsAligned root (quarter_of s i)
 aligned-quarter root s i above a = record {
   column = 2 * a.column + far_by (is_right i) 1;

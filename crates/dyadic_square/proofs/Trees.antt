@@ -14,6 +14,7 @@ use Rattle.dyadic_square.proofs.Tiling.{quarters-tile}
 abbrev pub same_square : Square → Square → Bool
 same_square a b = int_eq a.x b.x && int_eq a.y b.y && a.level == b.level
 
+-- squares with equal parts are equal
 square_is : (x x' y y' : ℤ) (l l' : ℕ) → x ≡ x' → y ≡ y' → l ≡ l' → let a : Square = record { x = x; y = y; level = l } in let b : Square = record { x = x'; y = y'; level = l' } in a ≡ b
 square_is x x' y y' l l' ex ey el =
     let across : ℤ → Square = λ z. record { x = z; y = y; level = l } in
@@ -102,7 +103,6 @@ leaves-tile t root fits p =
     ∙ total-leaves (λ s. once (holds s p)) (preorder t root) ∙ total-held t root p fits
 
 -- ---- cutting a leaf
-
 -- a square that has no quarters in a tree
 abbrev pub leaf_at : Square → TreeSquare
 leaf_at s = record { square = s; is_split = false }

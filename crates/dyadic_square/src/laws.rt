@@ -1,16 +1,18 @@
 //! Laws of the squares of a tree. Each function here does nothing, and its clause is the law.
 
-ghost use Rattle.std.specs.Prelude.{◌≡◌, ℕ, ◌+◌, ◌*◌, ◌<◌, ◌≤◌, ◌⊎◌, ◌↔◌, true, List, [], ◌∷◌, length, map, count_by, All, IsPermutation};
+ghost use Rattle.std.specs.Prelude.{◌≡◌, ℕ, ◌+◌, ◌*◌, ◌<◌, ◌≤◌, ◌⊎◌, ◌↔◌, true, List};
+ghost use Rattle.std.specs.Prelude.{[], ◌∷◌, length, map, count_by, All, IsPermutation};
 ghost use Rattle.std.specs.List.Sorted.{IsNonDecreasingBy, IsStrictlyIncreasing};
 ghost use Rattle.siting_definitions.specs.Point.{Point};
-ghost use Rattle.siting_definitions.specs.Square.{IsSquare, Square, Tiles, holds, holds_closed, quarters};
+ghost use Rattle.siting_definitions.specs.Square.{IsSquare, Square, Tiles};
+ghost use Rattle.siting_definitions.specs.Square.{holds, holds_closed, quarters};
 ghost use Rattle.siting_definitions.specs.Tree.{Fits, Tree, TreeSquare, leaves, preorder};
 ghost use Rattle.dyadic_square.specs.Order.{rank_of, z_of};
 ghost use Rattle.dyadic_square.specs.Walk.{Walks};
 ghost use Rattle.dyadic_square.specs.Within.{LiesWithin};
 
-/// The quarters of a square hold each of its points once, and no other. They are squares within the limits, and lie
-/// within it.
+/// The quarters of a square hold each of its points once, and no other. They are squares within the
+/// limits, and lie within it.
 pub fn quarters_tile()
     ensures tile { (s : Square) → 0 < s.level → Tiles (quarters s) s }
     ensures limits { (s : Square) → 0 < s.level → IsSquare s → All IsSquare (quarters s) }
@@ -30,7 +32,8 @@ pub fn tree_size()
         ≡ 1 + 4 * count_by (λ (s : TreeSquare). s.is_split) (preorder t root) }
 {}
 
-/// The lists that are read in preorder, with a list of the squares to come, are the preorders of trees.
+/// The lists that are read in preorder, with a list of the squares to come,
+/// are the preorders of trees.
 pub fn walks_are_trees()
     ensures tree { (root : Square) (squares : List TreeSquare) → Walks (root ∷ []) squares
         → (t : Tree) × Fits t root.level × (squares ≡ preorder t root) }

@@ -1,7 +1,8 @@
-//! Dyadic squares of the grid: their corners, quarters and centres, which points they hold, and the order of the
-//! squares of a tree.
+//! Dyadic squares of the grid: their corners, quarters and centres, which points they hold, and the
+//! order of the squares of a tree.
 //!
-//! A square has a corner, in grid units, and a level; its side is 2^level grid units, and a length is 65536 of these.
+//! A square has a corner, in grid units, and a level; its side is 2^level grid units, and a length
+//! is 65,536 of these.
 #![tactic(auto)]
 
 mod laws;

@@ -3,15 +3,16 @@
 ghost use Rattle.std.specs.Prelude.{◌≡◌, ℕ, ◌-◌, ◌^◌, ◌<◌, ◌≤◌, pos, ◌≤ℤ◌, ◌&&◌, int_le, int_lt};
 ghost use Rattle.siting_definitions.specs.Point.{point_of};
 ghost use Rattle.siting_definitions.specs.Square as squares;
-ghost use Rattle.siting_definitions.specs.Square.{IsSquare, centre_of, corner_of, extent_of, holds, quarter_of};
+ghost use Rattle.siting_definitions.specs.Square.{IsSquare, centre_of, corner_of};
+ghost use Rattle.siting_definitions.specs.Square.{extent_of, holds, quarter_of};
 ghost use Rattle.dyadic_square.specs.Order.{rank_of, z_of};
 
 use crate::spread::spread_40;
 use exact_geometry::{Extent, Pt};
 use std::marker::Model;
 
-/// A half-open square of the grid: it holds its left and its lower border, and neither of the others. The closed square
-/// lies within ±2^38 grid units.
+/// A half-open square of the grid: it holds its left and its lower border, and neither of the
+/// others. The closed square lies within ±2^38 grid units.
 #[derive(Clone, Copy, Debug, PartialEq, Eq)]
 pub struct Square {
     /// The left border, in grid units.
@@ -81,7 +82,8 @@ impl Square {
         }
     }
 
-    /// Corner `i` of the closed square: 0 (left, lower), 1 (right, lower), 2 (left, upper), 3 (right, upper).
+    /// Corner `i` of the closed square: 0 (left, lower), 1 (right, lower), 2 (left, upper), 3
+    /// (right, upper).
     pub fn corner(self, i: u8) -> Pt
         requires { i < 4 }
         ensures { result ≡ corner_of self i }
@@ -114,7 +116,8 @@ impl Square {
         )
     }
 
-    /// The centre, half the side to the right of the corner and above it. The level has to be above 0.
+    /// The centre, half the side to the right of the corner and above it. The
+    /// level has to be above 0.
     pub fn centre(self) -> Pt
         requires { 0 < self.level }
         ensures { result ≡ centre_of self }
@@ -123,8 +126,8 @@ impl Square {
         Pt::of(self.x + half, self.y + half)
     }
 
-    /// The bits of the ways from the root's corner to this one's, each bit of y above the bit of x of its place. Of
-    /// squares of a tree of `root` it is their place along the z curve.
+    /// The bits of the ways from the root's corner to this one's, each bit of y above the bit of x
+    /// of its place. Of squares of a tree of `root` it is their place along the z curve.
     pub fn z_key(self, root: Square) -> u128
         ensures value { result ≡ z_of root self }
         ensures size { result < 2 ^ 82 }
@@ -134,8 +137,8 @@ impl Square {
         2 * upwards + across
     }
 
-    /// One number for the order by `z_key`, and of two squares with one key the larger first. The squares of a tree of
-    /// `root`, in rising order of this number, stand in preorder.
+    /// One number for the order by `z_key`, and of two squares with one key the larger first. The
+    /// squares of a tree of `root`, in rising order of this number, stand in preorder.
     pub fn rank(self, root: Square) -> u128
         ensures { result ≡ rank_of root self }
     {

@@ -6,6 +6,7 @@ use Rattle.siting_definitions.specs.Point.{Pt}
 abbrev pub IsGridCoordinate : ℤ → Type 0
 IsGridCoordinate z = unsigned_abs z ≤ 2 ^ 39
 
+-- a grid point whose coordinates are
 pub record IsPt (p : Pt) : Type 0 where
   pub x : IsGridCoordinate p.x
   pub y : IsGridCoordinate p.y

@@ -28,7 +28,8 @@ impl Model for Extent {
     ghost inverse = { λ e. record { x0 = e.x0; y0 = e.y0; x1 = e.x1; y1 = e.y1 } };
 }
 
-/// Whether the span from `start_a` to `end_a` and the span from `start_b` to `end_b` have no number in common.
+/// Whether the span from `start_a` to `end_a` and the span from `start_b` to `end_b`
+/// have no number in common.
 fn spans_apart(start_a: i64, end_a: i64, start_b: i64, end_b: i64) -> bool
     ensures { result ≡ (int_lt end_a start_b || int_lt end_b start_a) }
 {

@@ -1,6 +1,7 @@
-//! Points of the plane with whole coordinates, the side of an edge on which a point lies, and closed boxes.
+//! Points of the plane with whole coordinates, the side of an edge on which a point lies, and
+//! closed boxes.
 //!
-//! A length is 65536 grid units. All of it is exact: no number here is rounded.
+//! A length is `UNIT` grid units, 65,536 of them. All of it is exact: no number here is rounded.
 #![tactic(auto)]
 
 mod edge;

@@ -5,6 +5,7 @@ ghost use Rattle.siting_definitions.specs.Instance.{IsCoordinate, IsPlace};
 ghost use Rattle.siting_definitions.specs.Point.{grid};
 ghost use Rattle.exact_geometry.specs.Limits.{IsGridCoordinate, IsPt};
 
+use siting_definitions::UNIT;
 use std::marker::Model;
 
 /// A point with whole coordinates, in lengths, each at most 1,000,000 in size.
@@ -45,8 +46,8 @@ impl Place {
         ensures place { IsPlace self }
     {
         Pt {
-            x: 65536 * self.x as i64,
-            y: 65536 * self.y as i64,
+            x: UNIT as i64 * self.x as i64,
+            y: UNIT as i64 * self.y as i64,
         }
     }
 }

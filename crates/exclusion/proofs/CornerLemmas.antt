@@ -1,13 +1,13 @@
 -- A point of a closed square lies on the same side of an edge as the four corners: the side is a straight function of the
 -- point, so it is least and greatest at corners.
-use Rattle.std.proofs.Common.{◌≡◌, ℕ, ◌+◌, ◌*◌, ◌^◌, ◌≤◌, ℤ, pos, ◌+ℤ◌, ◌-ℤ◌, ◌*ℤ◌, ◌≤ℤ◌, ◌<ℤ◌, neg_ℤ, Bool, true, List, [], ◌∷◌, refl, sym, ap, ◌∙◌, arith}
+use Rattle.std.proofs.Common.{◌≡◌, ℕ, ◌^◌, ◌≤◌, ℤ, pos, ◌+ℤ◌, ◌-ℤ◌, ◌*ℤ◌, ◌≤ℤ◌, ◌<ℤ◌, neg_ℤ, true, sym, ap, ◌∙◌, arith}
 use Rattle.std.proofs.lemmas.Int.{by_lt_z}
 use Rattle.std.proofs.lemmas.Bool.{and_parts}
-use Rattle.std.specs.Prelude.{unsigned_abs, int_le}
-use borrow.Author.Differences.{up, down, ints, same_in}
-use Rattle.siting_definitions.specs.Point.{Place, Pt, Point, point_of, side}
+use Rattle.std.specs.Prelude.{unsigned_abs}
+use borrow.Author.Differences.{ints, same_in}
+use Rattle.siting_definitions.specs.Point.{Place, Point, point_of, side}
 use Rattle.siting_definitions.specs.Square.{Square, holds_closed, spans_closed, corner_of}
-use Rattle.siting_definitions.proofs.Integers.{diff, diffs, diff-eq, as_diff, scale_le_ℤ, mul_lt_ℤ, mul_minus_ℤ, mul_assoc_ℤ, mul_comm_ℤ, size_of_nonneg}
+use Rattle.siting_definitions.proofs.Integers.{neg_mul_ℤ, scale_le_ℤ, mul_lt_ℤ, mul_minus_ℤ, mul_assoc_ℤ, mul_comm_ℤ, size_of_nonneg}
 use Rattle.dyadic_square.proofs.Spans.{at_least_low, at_most_high}
 
 -- ---- products keep the order, by the sign of the factor
@@ -16,17 +16,11 @@ pub times_le : (u a b : ℤ) → pos 0 ≤ℤ u → a ≤ℤ b → (u *ℤ a) �
 times_le u a b h le =
     rw (sym (size_of_nonneg u h)) (scale_le_ℤ (unsigned_abs u) a b le)
 
-neg_times-diff : (u u' a a' : ℕ) → neg_ℤ (diff u u') *ℤ diff a a' ≡ neg_ℤ (diff u u' *ℤ diff a a')
-neg_times-diff u u' a a' = simp diffs (diff-eq _ _ _ _ (omega arith))
-
-neg_times : (u a : ℤ) → neg_ℤ u *ℤ a ≡ neg_ℤ (u *ℤ a)
-neg_times u a = rw (as_diff u, as_diff a) (neg_times-diff (up u) (down u) (up a) (down a))
-
 -- and one that isn't above 0 turns it
 pub times_le_back : (u a b : ℤ) → u ≤ℤ pos 0 → a ≤ℤ b → (u *ℤ b) ≤ℤ (u *ℤ a)
 times_le_back u a b h le =
     let e : (neg_ℤ u *ℤ a) ≤ℤ (neg_ℤ u *ℤ b) = times_le (neg_ℤ u) a b (omega (arith, ints)) le in
-    let f : neg_ℤ (u *ℤ a) ≤ℤ neg_ℤ (u *ℤ b) = rw (← neg_times u a, ← neg_times u b) e in
+    let f : neg_ℤ (u *ℤ a) ≤ℤ neg_ℤ (u *ℤ b) = rw (← neg_mul_ℤ u a, ← neg_mul_ℤ u b) e in
     omega (arith, ints, f)
 
 -- ---- a way w of the point, in units of q, between the ways low and high of two ends
@@ -56,17 +50,8 @@ below_zero sp sc q one le less =
     let f : (pos 65536 *ℤ sp) ≤ℤ (sc *ℤ pos q) = rw (mul_comm_ℤ sc (pos q)) le in
     omega (arith, ints, e, f)
 
-above_zero : (sp sc : ℤ) (q : ℕ) → 1 ≤ q → (pos q *ℤ sc) ≤ℤ (pos 65536 *ℤ sp) → pos 0 <ℤ sc → pos 0 <ℤ sp
-above_zero sp sc q one le less =
-    let e : (pos 0 *ℤ pos q) <ℤ (sc *ℤ pos q) = mul_lt_ℤ (pos 0) sc q one less in
-    let f : (sc *ℤ pos q) ≤ℤ (pos 65536 *ℤ sp) = rw (mul_comm_ℤ sc (pos q)) le in
-    omega (arith, ints, e, f)
-
 difference_le : (a b c d : ℤ) (q : ℕ) → (pos 65536 *ℤ a) ≤ℤ (pos q *ℤ c) → (pos q *ℤ d) ≤ℤ (pos 65536 *ℤ b) → (pos 65536 *ℤ (a -ℤ b)) ≤ℤ (pos q *ℤ (c -ℤ d))
 difference_le a b c d q h k = rw (mul_minus_ℤ (pos 65536) a b, mul_minus_ℤ (pos q) c d) (omega (arith, ints))
-
-difference_ge : (a b c d : ℤ) (q : ℕ) → (pos q *ℤ c) ≤ℤ (pos 65536 *ℤ a) → (pos 65536 *ℤ b) ≤ℤ (pos q *ℤ d) → (pos q *ℤ (c -ℤ d)) ≤ℤ (pos 65536 *ℤ (a -ℤ b))
-difference_ge a b c d q h k = rw (mul_minus_ℤ (pos 65536) a b, mul_minus_ℤ (pos q) c d) (omega (arith, ints))
 
 -- it is below 0 where it is so at all four pairs of ends
 turn_below : (ux uy wx wy x0 x1 y0 y1 : ℤ) (q : ℕ) → 1 ≤ q → IsBetween wx x0 x1 q → IsBetween wy y0 y1 q → (ux *ℤ y0 -ℤ uy *ℤ x0) <ℤ pos 0 → (ux *ℤ y0 -ℤ uy *ℤ x1) <ℤ pos 0 → (ux *ℤ y1 -ℤ uy *ℤ x0) <ℤ pos 0 → (ux *ℤ y1 -ℤ uy *ℤ x1) <ℤ pos 0 → (ux *ℤ wy -ℤ uy *ℤ wx) <ℤ pos 0
@@ -82,19 +67,16 @@ turn_below ux uy wx wy x0 x1 y0 y1 q one x y a b c d =
     (λ low. let m : uy ≤ℤ pos 0 = omega (arith, ints) in below_zero _ _ q one (difference_le (ux *ℤ wy) (uy *ℤ wx) _ _ q (up_high ux wy y0 y1 q y right) (down_high uy wx x0 x1 q x m)) d)
     (λ high. below_zero _ _ q one (difference_le (ux *ℤ wy) (uy *ℤ wx) _ _ q (up_high ux wy y0 y1 q y right) (down_low uy wx x0 x1 q x high)) c))
 
+-- the opposite edge has the opposite sign
+opposite : (ux uy x y : ℤ) → pos 0 <ℤ (ux *ℤ y -ℤ uy *ℤ x) → (neg_ℤ ux *ℤ y -ℤ neg_ℤ uy *ℤ x) <ℤ pos 0
+opposite ux uy x y h = rw (neg_mul_ℤ ux y, neg_mul_ℤ uy x) (omega (arith, ints, h))
+
 -- and above 0 likewise
 turn_above : (ux uy wx wy x0 x1 y0 y1 : ℤ) (q : ℕ) → 1 ≤ q → IsBetween wx x0 x1 q → IsBetween wy y0 y1 q → pos 0 <ℤ (ux *ℤ y0 -ℤ uy *ℤ x0) → pos 0 <ℤ (ux *ℤ y0 -ℤ uy *ℤ x1) → pos 0 <ℤ (ux *ℤ y1 -ℤ uy *ℤ x0) → pos 0 <ℤ (ux *ℤ y1 -ℤ uy *ℤ x1) → pos 0 <ℤ (ux *ℤ wy -ℤ uy *ℤ wx)
 turn_above ux uy wx wy x0 x1 y0 y1 q one x y a b c d =
-    by_lt_z ux (pos 0)
-    (λ left.
-    let l : ux ≤ℤ pos 0 = omega (arith, ints) in
-    by_lt_z uy (pos 0)
-    (λ low. let m : uy ≤ℤ pos 0 = omega (arith, ints) in above_zero _ _ q one (difference_ge (ux *ℤ wy) (uy *ℤ wx) _ _ q (down_high ux wy y0 y1 q y l) (up_low uy wx x0 x1 q x m)) c)
-    (λ high. above_zero _ _ q one (difference_ge (ux *ℤ wy) (uy *ℤ wx) _ _ q (down_high ux wy y0 y1 q y l) (up_high uy wx x0 x1 q x high)) d))
-    (λ right.
-    by_lt_z uy (pos 0)
-    (λ low. let m : uy ≤ℤ pos 0 = omega (arith, ints) in above_zero _ _ q one (difference_ge (ux *ℤ wy) (uy *ℤ wx) _ _ q (down_low ux wy y0 y1 q y right) (up_low uy wx x0 x1 q x m)) a)
-    (λ high. above_zero _ _ q one (difference_ge (ux *ℤ wy) (uy *ℤ wx) _ _ q (down_low ux wy y0 y1 q y right) (up_high uy wx x0 x1 q x high)) b))
+    let e = turn_below (neg_ℤ ux) (neg_ℤ uy) wx wy x0 x1 y0 y1 q one x y (opposite ux uy x0 y0 a) (opposite ux uy x1 y0 b) (opposite ux uy x0 y1 c) (opposite ux uy x1 y1 d) in
+    let f : (neg_ℤ (ux *ℤ wy) -ℤ neg_ℤ (uy *ℤ wx)) <ℤ pos 0 = rw (← neg_mul_ℤ ux wy, ← neg_mul_ℤ uy wx) e in
+    omega (arith, ints, f)
 
 -- ---- the ways from an edge's start
 from_start : (a : ℤ) (q : ℕ) → pos q *ℤ (pos 65536 *ℤ a) ≡ pos 65536 *ℤ (pos q *ℤ a)

@@ -1,7 +1,7 @@
 -- No permitted point lies in an excluded closed square, and what lies within an excluded square is excluded.
-use Rattle.std.proofs.Common.{◌≡◌, ℕ, ◌+◌, ◌*◌, ◌^◌, ◌<◌, ◌≤◌, ℤ, pos, ◌+ℤ◌, ◌*ℤ◌, ◌≤ℤ◌, ◌<ℤ◌, Bool, true, false, not, ◌&&◌, ◌||◌, List, [], ◌∷◌, length, get_or, take, take_all, subst, map, refl, sym, ap, ◌∙◌, ◌⊎◌, inl, inr, ⊎_elim, arith}
+use Rattle.std.proofs.Common.{◌≡◌, ℕ, ◌+◌, ◌^◌, ◌<◌, ◌≤◌, ℤ, pos, ◌+ℤ◌, ◌*ℤ◌, ◌≤ℤ◌, ◌<ℤ◌, Bool, true, false, ◌&&◌, ◌||◌, List, [], ◌∷◌, length, take, take_all, subst, map, refl, sym, ap, ◌∙◌, ⊎_elim, arith}
 use Rattle.std.proofs.lemmas.List.Folds.{list_any_at, list_any_more}
-use Rattle.std.proofs.lemmas.Bool.{and_parts, and_from, or_cases, or_from, or_left, or_right, not-true, true≢false, cases_Bool}
+use Rattle.std.proofs.lemmas.Bool.{and_parts, and_from, or_cases, or_from, or_left, or_right, not-true, true≢false}
 use Rattle.std.specs.Prelude.{All, int_lt, int_le}
 use Rattle.std.specs.List.{list_all, list_any}
 use Rattle.std.proofs.lemmas.List.Elements.{All-tail}
@@ -11,7 +11,7 @@ use Rattle.siting_definitions.specs.Point.{Place, Pt, Point, point_of, side}
 use Rattle.siting_definitions.specs.Polygon.{edges, vertex, next_of, origin, covers, covers_inside}
 use Rattle.siting_definitions.specs.Instance.{Instance, IsInstance, IsPolygon}
 use Rattle.siting_definitions.specs.Permitted.{permits}
-use Rattle.siting_definitions.specs.Square.{Square, Extent, extent_of, holds_closed, spans_closed, corner_of, corners, quarter_of, far_by, is_right, is_upper}
+use Rattle.siting_definitions.specs.Square.{Square, Extent, extent_of, holds_closed, spans_closed, corner_of, corners, quarter_of, is_right, is_upper}
 use Rattle.siting_definitions.specs.Excluded.{box_of, boxes_apart, is_right_of, is_apart, encloses, is_excluded}
 use Rattle.siting_definitions.proofs.Integers.{int_lt-true, int_le-true, lt-int_lt, le-int_le, mul_le_ℤ, mul_lt_ℤ, mul_comm_ℤ, mul_assoc_ℤ, le_trans_ℤ}
 use Rattle.dyadic_square.specs.Within.{LiesWithin}
@@ -173,6 +173,7 @@ lt_less a b c le h = lt-int_lt c a (let e = int_lt-true b a h in omega (arith, i
 or_map : (a b c d : Bool) → (a ≡ true → c ≡ true) → (b ≡ true → d ≡ true) → (a || b) ≡ true → (c || d) ≡ true
 or_map a b c d f g h = ⊎_elim (λ first. or_left c d (f first)) (λ second. or_right c d (g second)) (or_cases a b h)
 
+-- a box that is apart from a square is apart from each square within it
 boxes_apart-within : (a : Extent) (s t : Square) → LiesWithin s t → boxes_apart a (extent_of s) ≡ true → boxes_apart a (extent_of t) ≡ true
 boxes_apart-within a s t h apart =
     or_map _ _ _ _
@@ -180,6 +181,7 @@ boxes_apart-within a s t h apart =
     (lt_less a.y0 (s.y +ℤ pos (2 ^ s.level)) (t.y +ℤ pos (2 ^ t.level)) h.upper)
     apart
 
+-- so is a polygon
 apart-within : (s t : Square) → LiesWithin s t → (vs : List Place) → is_apart vs s ≡ true → is_apart vs t ≡ true
 unfolding is_apart
 apart-within s t h vs apart =

@@ -14,8 +14,9 @@ use dyadic_square::Square;
 use exact_geometry::{Place, boxes_apart, side};
 use site_model::Instance;
 
-/// Whether a square is excluded: each permitted polygon is strictly apart from the closed square, by their bounding boxes
-/// or by one of the polygon's own edges, or some forbidden polygon has all four corners of the square in its interior.
+/// Whether a square is excluded: each permitted polygon is strictly apart from the closed square,
+/// by their bounding boxes or by one of the polygon's own edges, or some forbidden polygon has all
+/// four corners of the square in its interior.
 #[tactic(auto, unfolding(siting_definitions::specs::Excluded::is_excluded))]
 pub fn excluded(instance: &Instance, sq: Square) -> bool
     ensures { result ≡ is_excluded instance.now sq }
@@ -47,7 +48,8 @@ fn does_one_enclose(polygons: &[Polygon], sq: Square) -> bool
     false
 }
 
-/// Whether the polygon is strictly apart from the closed square, by their boxes or by one of its edges.
+/// Whether the polygon is strictly apart from the closed square, by their
+/// boxes or by one of its edges.
 #[tactic(auto, unfolding(siting_definitions::specs::Excluded::is_apart))]
 fn is_apart(polygon: &Polygon, sq: Square) -> bool
     ensures { result ≡ tests.is_apart polygon.now sq }

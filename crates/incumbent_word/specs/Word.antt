@@ -1,5 +1,6 @@
 -- Numbers of 64 bits with a sign as words, in order.
-use Rattle.std.specs.Prelude.{ℕ, suc, ◌+◌, ◌-◌, ◌^◌, ◌==◌, ℤ, pos, negsuc, ◌-ℤ◌, if◌then◌else◌, Option, Some, None}
+use Rattle.std.specs.Prelude.{ℕ, suc, ◌+◌, ◌-◌, ◌^◌, ◌==◌, ℤ, pos, negsuc}
+use Rattle.std.specs.Prelude.{◌-ℤ◌, if◌then◌else◌, Option, Some, None}
 
 -- v + 2 ^ 63
 abbrev pub word_of : ℤ → ℕ

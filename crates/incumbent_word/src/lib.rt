@@ -1,7 +1,9 @@
-//! Costs as ordered words: a number, or none, in one word of 64 bits, so that the least number has the least word.
+//! Costs as ordered words: a number, or none, in one word of 64 bits, so that the least number has
+//! the least word.
 #![tactic(auto)]
 
-ghost use Rattle.std.specs.Prelude.{◌≡◌, ℕ, ◌-◌, ◌^◌, ◌<◌, ◌≤◌, ℤ, pos, ◌+ℤ◌, ◌<ℤ◌, ◌≤ℤ◌, ◌↔◌, Option, Some, None, IsNone, IfSome, FitsSigned};
+ghost use Rattle.std.specs.Prelude.{◌≡◌, ℕ, ◌-◌, ◌^◌, ◌<◌, ◌≤◌, ℤ, pos, ◌+ℤ◌, ◌<ℤ◌, ◌≤ℤ◌};
+ghost use Rattle.std.specs.Prelude.{◌↔◌, Option, Some, None, IsNone, IfSome, FitsSigned};
 ghost use Rattle.std.specs.Int.{w64};
 ghost use Rattle.incumbent_word.specs.Word.{word_of, word_in, number_in};
 

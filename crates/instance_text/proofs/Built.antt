@@ -1,10 +1,8 @@
 -- What building a polygon answers is what its vertices say.
-use Rattle.std.proofs.Common.{◌≡◌, ℕ, ◌≤◌, Bool, true, false, cond, pos, List, [], ◌∷◌, length, Ok, Err, refl, ap, ◌∙◌, arith}
-use Rattle.std.specs.Prelude.{int_lt, reverse}
-use Rattle.std.proofs.lemmas.Bool.{le-ltb, false_from_ne_true, cond_both}
-use Rattle.std.proofs.lemmas.List.{length-reverse}
+use Rattle.std.proofs.Common.{◌≡◌, ℕ, ◌≤◌, false, List, length, Ok, Err, refl, ap, ◌∙◌, arith}
+use Rattle.std.proofs.lemmas.Bool.{le-ltb, false_from_ne_true}
 use Rattle.siting_definitions.specs.Point.{Place}
-use Rattle.siting_definitions.specs.Polygon.{doubled_area, turned, IsConvex}
+use Rattle.siting_definitions.specs.Polygon.{turned, IsConvex}
 use Rattle.siting_definitions.specs.Instance.{IsPolygon}
 use Rattle.convex_region.specs.Dent.{IsDent, IsFirstDent}
 use Rattle.instance_text.specs.declared.faults.TheConstants.{NOT_CONVEX}

@@ -31,6 +31,7 @@ weight_length z is = by_size (cases_lt (unsigned_abs z) 1000) (cases_lt (unsigne
     by_size (inr _) (inr from) (inl below) = omega (arith, number_length 5 z (omega arith) (omega arith) (omega arith))
     by_size (inr _) (inr _) (inr from) = omega (arith, number_length 8 z (omega arith) (omega arith) (omega arith))
 
+-- a cutoff is written in at most 7 digits, after a space
 cutoff_width : (cutoff : Option ℤ) → MatchOption cutoff ⊤ (λ c. (pos 1 ≤ℤ c) × (c ≤ℤ pos 4000000)) → width (cutoff_fields cutoff) ≤ 8
 unfolding width
 cutoff_width None is = omega arith
@@ -41,31 +42,25 @@ cutoff_width (Some (pos n)) is =
 cutoff_width (Some (negsuc n)) is = let low = is.0 in absurd (omega (arith, ints))
 
 -- ---- lines
--- the line of a point, by its weight
-point_length : (d : DemandPt) → IsDemandPt d → 9000 * length (line_text (point_line d)) ≤ 341000 + unsigned_abs d.w
+-- the line of a point, by the digits of its weight
+point_width : (d : DemandPt) → IsDemandPt d → length (line_text (point_line d)) ≤ 33 + length (signed_decimal d.w)
 unfolding width
-point_length d is =
+point_width d is =
     omega (
       arith,
       length-line_text (codes "point") (signed_decimal d.x ∷ signed_decimal d.y ∷ signed_decimal d.w ∷ cutoff_fields d.cutoff),
       coordinate_length d.x is.x,
       coordinate_length d.y is.y,
-      weight_length d.w is.w,
       cutoff_width d.cutoff is.cutoff,
     )
 
--- the line of a point alone
+-- by its weight
+point_length : (d : DemandPt) → IsDemandPt d → 9000 * length (line_text (point_line d)) ≤ 341000 + unsigned_abs d.w
+point_length d is = omega (arith, point_width d is, weight_length d.w is.w)
+
+-- and alone
 point_short : (d : DemandPt) → IsDemandPt d → length (line_text (point_line d)) ≤ 42
-unfolding width
-point_short d is =
-    omega (
-      arith,
-      length-line_text (codes "point") (signed_decimal d.x ∷ signed_decimal d.y ∷ signed_decimal d.w ∷ cutoff_fields d.cutoff),
-      coordinate_length d.x is.x,
-      coordinate_length d.y is.y,
-      number_length 8 d.w (omega arith) (omega (arith, is.w)) (omega (arith, is.w)),
-      cutoff_width d.cutoff is.cutoff,
-    )
+point_short d is = omega (arith, point_width d is, number_length 8 d.w (omega arith) (omega (arith, is.w)) (omega (arith, is.w)))
 
 -- the lines of points whose weights are known together
 points_length : (ds : List DemandPt) → All IsDemandPt ds → 9000 * length (text_of (map point_line ds)) ≤ 341000 * length ds + weight ds

@@ -23,26 +23,21 @@ places_are_even [] are = refl
 places_are_even (x ∷ []) are = are
 places_are_even (x ∷ y ∷ fields) are = even_more (length fields) (places_are_even fields (and_parts _ _ are).1)
 
-places_are_numbers : (fields : List (List ℕ)) → are_places fields ≡ true → are_numbers fields ≡ true
-places_are_numbers [] are = refl
-places_are_numbers (x ∷ []) are = absurd (false≢true are)
-places_are_numbers (x ∷ y ∷ fields) are =
-    let parts = and_parts _ _ are in
-    let pair = and_parts _ _ parts.0 in
-    and_from _ _ (number_in_range _ pair.0) (and_from _ _ (number_in_range _ pair.1) (places_are_numbers fields parts.1))
-
-places_are_coordinates : (fields : List (List ℕ)) → are_places fields ≡ true → are_coordinates fields ≡ true
-places_are_coordinates [] are = refl
+-- fields that are places are all numbers and all coordinates
+places_are_coordinates : (fields : List (List ℕ)) → are_places fields ≡ true → (are_numbers fields ≡ true) × (are_coordinates fields ≡ true)
+places_are_coordinates [] are = (refl, refl)
 places_are_coordinates (x ∷ []) are = absurd (false≢true are)
 places_are_coordinates (x ∷ y ∷ fields) are =
     let parts = and_parts _ _ are in
     let pair = and_parts _ _ parts.0 in
-    and_from _ _ pair.0 (and_from _ _ pair.1 (places_are_coordinates fields parts.1))
+    let rest = places_are_coordinates fields parts.1 in
+    (and_from _ _ (number_in_range _ pair.0) (and_from _ _ (number_in_range _ pair.1) rest.0), and_from _ _ pair.0 (and_from _ _ pair.1 rest.1))
 
 -- the row of fields that are places is that of the polygon
 pub row-places : (fields : List (List ℕ)) → are_places fields ≡ true → polygon_row fields ≡ polygon_of (places_of fields)
-row-places fields are = rw (places_are_even fields are, places_are_numbers fields are, places_are_coordinates fields are) refl
+row-places fields are = rw (places_are_even fields are, (places_are_coordinates fields are).0, (places_are_coordinates fields are).1) refl
 
+-- and an even number of coordinates are places
 coordinates_are_places : (fields : List (List ℕ)) → eqb (length fields % 2) 0 ≡ true → are_coordinates fields ≡ true → are_places fields ≡ true
 coordinates_are_places [] even are = refl
 coordinates_are_places (x ∷ []) even are = even

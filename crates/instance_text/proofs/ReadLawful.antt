@@ -48,6 +48,7 @@ HasSize-within limit (Some z) = sized (nat_le (unsigned_abs z) limit) (leb-true 
   sized true h = h refl
   sized false h = tt
 
+-- a cutoff that was read is within the limits
 IsCutoff-above_zero : (w : NumberField) → HasSize 4000000 w → IsCutoff (above_zero w)
 IsCutoff-above_zero NotANumber size = tt
 IsCutoff-above_zero Beyond size = tt
@@ -84,6 +85,7 @@ IsDemandPt-cut_point_of x y w NotANumber d size_x size_y size_w cut is = absurd 
 IsDemandPt-cut_point_of x y w Beyond d size_x size_y size_w cut is = absurd cc
 IsDemandPt-cut_point_of x y w (Value c) d size_x size_y size_w cut is = IsDemandPt-point_of x y w (Some c) d size_x size_y size_w cut is
 
+-- so is a demand point
 IsDemandPt-point_row : (cutoffs : Bool) (fields : List (List ℕ)) (d : DemandPt) → point_row cutoffs fields ≡ Ok d → IsDemandPt d
 IsDemandPt-point_row cutoffs (x ∷ y ∷ w ∷ []) d is =
     IsDemandPt-point_of (coordinate_of x) (coordinate_of y) (weight_of w) None d (HasSize-within 1000000 (number_of x)) (HasSize-within 1000000 (number_of y)) (HasSize-within 16000000 (number_of w)) tt is
@@ -110,6 +112,7 @@ All-reverse vs all k d h =
     let inside : k < length vs = omega (arith, h, length-reverse vs) in
     rw (get_or-reverse vs k d inside) (all (length vs - 1 - k) d (omega arith))
 
+-- turning a polygon leaves its places within the limits
 All-turned : (vs : List Place) → All IsPlace vs → All IsPlace (turned vs)
 unfolding turned
 All-turned [] all = cond_both (int_lt (doubled_area []) (pos 0)) [] [] (λ (ws : List Place). All IsPlace ws) (λ _. all) (λ _. all)
@@ -131,6 +134,7 @@ IsPolygon-polygon_of vs polygon all is =
     let whole : IsPolygon (turned vs) = record { few = omega arith; many = omega arith; places = All-turned vs all; convex = (is_convex-iff (turned vs)).0 convex.0 } in
     subst IsPolygon same whole
 
+-- and a polygon that was read is within them
 IsPolygon-polygon_row : (fields : List (List ℕ)) (polygon : List Place) → polygon_row fields ≡ Ok polygon → IsPolygon polygon
 IsPolygon-polygon_row fields polygon is =
     let even = chosen (eqb (length fields % 2) 0) _ 2 polygon is in
@@ -139,33 +143,35 @@ IsPolygon-polygon_row fields polygon is =
     IsPolygon-polygon_of (places_of fields) polygon (All-places_of fields) coordinates.1
 
 -- ---- lines
+-- demand points within the limits
+record ArePointsWithin (points : List DemandPt) : Type 0 where
+  light : weight points ≤ 16000000
+  many : length points ≤ 4096
+  all : All IsDemandPt points
+
+-- polygons within the limits
+record ArePolygonsWithin (polygons : List (List Place)) : Type 0 where
+  many : length polygons ≤ 64
+  all : All IsPolygon polygons
+
+-- what was found is within the limits
 record IsFoundWithin (found : Found) : Type 0 where
-  light : weight found.points ≤ 16000000
-  many_points : length found.points ≤ 4096
-  points : All IsDemandPt found.points
-  many_permitted : length found.permitted ≤ 64
-  permitted : All IsPolygon found.permitted
-  many_forbidden : length found.forbidden ≤ 64
-  forbidden : All IsPolygon found.forbidden
+  points : ArePointsWithin found.points
+  permitted : ArePolygonsWithin found.permitted
+  forbidden : ArePolygonsWithin found.forbidden
   whole : IsWhole found.phase found
 
+-- a choice gives one of its two results
 either : {T E : Type 0} (b : Bool) (first second : Result T E) (x : T) → cond b first second ≡ Ok x → (first ≡ Ok x) ⊎ (second ≡ Ok x)
 either true first second x is = inl is
 either false first second x is = inr is
 
 -- a phase that isn't the end, with what was found
 in_body : (cutoffs : Bool) (found : Found) → IsFoundWithin found → IsFoundWithin (record found { phase = Body cutoffs })
-in_body cutoffs found lawful = record {
-  light = lawful.light;
-  many_points = lawful.many_points;
-  points = lawful.points;
-  many_permitted = lawful.many_permitted;
-  permitted = lawful.permitted;
-  many_forbidden = lawful.many_forbidden;
-  forbidden = lawful.forbidden;
-  whole = tt;
-}
+in_body cutoffs found lawful =
+    record { points = lawful.points; permitted = lawful.permitted; forbidden = lawful.forbidden; whole = tt }
 
+-- what was found is what the step before left
 became : (found next : Found) → IsFoundWithin found → (let made : Result Found ℕ = Ok found in made ≡ Ok next) → IsFoundWithin next
 became found next lawful is = let same : found ≡ next = cc in subst IsFoundWithin same lawful
 
@@ -175,6 +181,7 @@ taken_version version found next lawful is =
     (λ second. became _ next (in_body true found lawful) (chosen (bytes_eq version (codes "2")) _ 1 next second).1)
     (either (bytes_eq version (codes "1")) (Ok (record found { phase = Body false })) _ next is)
 
+-- the header leaves what was found within the limits
 taken_header : (fields : List (List ℕ)) (found next : Found) → IsFoundWithin found → take_header fields found ≡ Ok next → IsFoundWithin next
 taken_header (word ∷ version ∷ []) found next lawful is =
     taken_version version found next lawful (chosen (bytes_eq word (codes "siting")) (take_version version found) 1 next is).1
@@ -186,12 +193,8 @@ taken_kind (Err number) found next lawful is = absurd cc
 taken_kind (Ok kind) found next lawful is =
     let made = refused (is_some found.kind) _ 13 next is in
     let kept : IsFoundWithin (record found { kind = Some kind }) = record {
-      light = lawful.light;
-      many_points = lawful.many_points;
       points = lawful.points;
-      many_permitted = lawful.many_permitted;
       permitted = lawful.permitted;
-      many_forbidden = lawful.many_forbidden;
       forbidden = lawful.forbidden;
       whole = whole_kind found.phase found kind lawful.whole;
     } in
@@ -211,12 +214,12 @@ taken_point (Ok point) found next told lawful is =
     let below = leb-false 4096 (length found.points) few.0 in
     let longer = length-append found.points (point ∷ []) in
     let kept : IsFoundWithin (record found { points = more }) = record {
-      light = leb-true (weight more) 16000000 light.0;
-      many_points = omega arith;
-      points = All-push IsDemandPt found.points point lawful.points (told point refl);
-      many_permitted = lawful.many_permitted;
+      points = record {
+        light = leb-true (weight more) 16000000 light.0;
+        many = omega arith;
+        all = All-push IsDemandPt found.points point lawful.points.all (told point refl);
+      };
       permitted = lawful.permitted;
-      many_forbidden = lawful.many_forbidden;
       forbidden = lawful.forbidden;
       whole = whole_push found.phase found more (omega arith) lawful.whole;
     } in
@@ -227,26 +230,24 @@ whole_permit Start found permitted more whole = tt
 whole_permit (Body cutoffs) found permitted more whole = tt
 whole_permit (Ended kind) found permitted more whole = (whole.0, omega (arith, whole.1))
 
--- polygons with one more, where there is room for it, keep their limits
-record AreFewPolygons (before after : List (List Place)) : Type 0 where
+-- one polygon more, where there is room for it, is within the limits too
+record AreMorePolygons (before after : List (List Place)) : Type 0 where
   more : length before ≤ length after
-  many : length after ≤ 64
-  polygons : All IsPolygon after
+  within : ArePolygonsWithin after
 
--- one polygon more
-added_polygon : (row : Result (List Place) ℕ) (before after : List (List Place)) → ((p : List Place) → row ≡ Ok p → IsPolygon p) → All IsPolygon before → add_polygon row before ≡ Ok after → AreFewPolygons before after
+-- polygons to which one was added
+added_polygon : (row : Result (List Place) ℕ) (before after : List (List Place)) → ((p : List Place) → row ≡ Ok p → IsPolygon p) → ArePolygonsWithin before → add_polygon row before ≡ Ok after → AreMorePolygons before after
 added_polygon (Err number) before after told lawful is = absurd cc
 added_polygon (Ok polygon) before after told lawful is =
     let few = refused (leb 64 (length before)) (Ok (before ++ polygon ∷ [])) 11 after is in
     let below = leb-false 64 (length before) few.0 in
     let longer = length-append before (polygon ∷ []) in
-    let kept : AreFewPolygons before (before ++ polygon ∷ []) = record {
+    let kept : AreMorePolygons before (before ++ polygon ∷ []) = record {
       more = omega arith;
-      many = omega arith;
-      polygons = All-push IsPolygon before polygon lawful (told polygon refl);
+      within = record { many = omega arith; all = All-push IsPolygon before polygon lawful.all (told polygon refl) };
     } in
     let same : before ++ polygon ∷ [] ≡ after = cc (few.1) in
-    subst (AreFewPolygons before) same kept
+    subst (AreMorePolygons before) same kept
 
 -- a permitted polygon
 taken_permit : (row : Result (List Place) ℕ) (found next : Found) → ((p : List Place) → row ≡ Ok p → IsPolygon p) → IsFoundWithin found → take_permit row found ≡ Ok next → IsFoundWithin next
@@ -254,12 +255,8 @@ taken_permit row found next told lawful is =
     let step = then_ok (add_polygon row found.permitted) (λ more. Ok (record found { permitted = more })) next is in
     let few = added_polygon row found.permitted step.0 told lawful.permitted step.1.0 in
     let kept : IsFoundWithin (record found { permitted = step.0 }) = record {
-      light = lawful.light;
-      many_points = lawful.many_points;
       points = lawful.points;
-      many_permitted = few.many;
-      permitted = few.polygons;
-      many_forbidden = lawful.many_forbidden;
+      permitted = few.within;
       forbidden = lawful.forbidden;
       whole = whole_permit found.phase found step.0 few.more lawful.whole;
     } in
@@ -276,13 +273,9 @@ taken_forbid row found next told lawful is =
     let step = then_ok (add_polygon row found.forbidden) (λ more. Ok (record found { forbidden = more })) next is in
     let few = added_polygon row found.forbidden step.0 told lawful.forbidden step.1.0 in
     let kept : IsFoundWithin (record found { forbidden = step.0 }) = record {
-      light = lawful.light;
-      many_points = lawful.many_points;
       points = lawful.points;
-      many_permitted = lawful.many_permitted;
       permitted = lawful.permitted;
-      many_forbidden = few.many;
-      forbidden = few.polygons;
+      forbidden = few.within;
       whole = whole_forbid found.phase found step.0 lawful.whole;
     } in
     became _ next kept step.1.1
@@ -294,17 +287,14 @@ closed (Some kind) [] permitted found next lawful is_points is_permitted is = ab
 closed (Some kind) (d ∷ ds) [] found next lawful is_points is_permitted is = absurd cc
 closed (Some kind) (d ∷ ds) (vs ∷ polygons) found next lawful is_points is_permitted is =
     let kept : IsFoundWithin (record found { phase = Ended kind }) = record {
-      light = lawful.light;
-      many_points = lawful.many_points;
       points = lawful.points;
-      many_permitted = lawful.many_permitted;
       permitted = lawful.permitted;
-      many_forbidden = lawful.many_forbidden;
       forbidden = lawful.forbidden;
       whole = (rw is_points (omega arith), rw is_permitted (omega arith));
     } in
     became _ next kept is
 
+-- so does the last line
 taken_end : (fields : List (List ℕ)) (found next : Found) → IsFoundWithin found → take_end fields found ≡ Ok next → IsFoundWithin next
 taken_end [] found next lawful is = closed found.kind found.points found.permitted found next lawful refl refl is
 taken_end (field ∷ fields) found next lawful is = absurd cc
@@ -323,12 +313,14 @@ taken_row cutoffs word fields found next lawful is =
     (either (bytes_eq word (codes "point")) _ _ next more))
     (either (bytes_eq word (codes "kind")) _ _ next is)
 
+-- each line that counts
 taken_fields : (phase : Phase) (fields : List (List ℕ)) (found next : Found) → IsFoundWithin found → take_fields phase fields found ≡ Ok next → IsFoundWithin next
 taken_fields Start fields found next lawful is = taken_header fields found next lawful is
 taken_fields (Body cutoffs) [] found next lawful is = became found next lawful is
 taken_fields (Body cutoffs) (word ∷ fields) found next lawful is = taken_row cutoffs word fields found next lawful is
 taken_fields (Ended kind) fields found next lawful is = absurd cc
 
+-- and each line
 taken_line : (fields : List (List ℕ)) (found next : Found) → IsFoundWithin found → take_line fields found ≡ Ok next → IsFoundWithin next
 taken_line fields found next lawful is =
     ⊎_elim (became found next lawful) (taken_fields found.phase fields found next lawful) (either (is_passed_over fields) (Ok found) (take_fields found.phase fields found) next is)
@@ -339,24 +331,26 @@ ended Start found i lawful whole is = absurd cc
 ended (Body cutoffs) found i lawful whole is = absurd cc
 ended (Ended kind) found i lawful whole is =
     let made : Instance = record { kind = kind; points = found.points; permitted = found.permitted; forbidden = found.forbidden } in
-    let kept : IsInstance (record { kind = kind; points = found.points; permitted = found.permitted; forbidden = found.forbidden }) = record {
+    let kept : IsInstance made = record {
       few_points = whole.0;
-      many_points = lawful.many_points;
-      points = lawful.points;
-      weight = lawful.light;
+      many_points = lawful.points.many;
+      points = lawful.points.all;
+      weight = lawful.points.light;
       few_permitted = whole.1;
-      many_permitted = lawful.many_permitted;
-      permitted = lawful.permitted;
-      many_forbidden = lawful.many_forbidden;
-      forbidden = lawful.forbidden;
+      many_permitted = lawful.permitted.many;
+      permitted = lawful.permitted.all;
+      many_forbidden = lawful.forbidden.many;
+      forbidden = lawful.forbidden.all;
     } in
-    let same : record { kind = kind; points = found.points; permitted = found.permitted; forbidden = found.forbidden } ≡ i = cc in
+    let same : made ≡ i = cc in
     subst IsInstance same kept
 
+-- where no fault was found, none is told
 pub at_line-ok : {T : Type 0} (line : ℕ) (r : Result T ℕ) (x : T) → at_line line r ≡ Ok x → r ≡ Ok x
 at_line-ok line (Ok value) x is = let same : value ≡ x = cc in ap Ok same
 at_line-ok line (Err number) x is = absurd cc
 
+-- so do all lines
 read_lawful : (rows : List (List (List ℕ))) (line : ℕ) (found : Found) (i : Instance) → IsFoundWithin found → read_rows line rows found ≡ Ok i → IsInstance i
 read_lawful [] line found i lawful is = ended found.phase found i lawful lawful.whole (at_line-ok line (finish found.phase found) i is)
 read_lawful (fields ∷ rows) line found i lawful is =
@@ -367,13 +361,9 @@ read_lawful (fields ∷ rows) line found i lawful is =
 IsFoundWithin-nothing : IsFoundWithin nothing_found
 unfolding weight
 IsFoundWithin-nothing = record {
-  light = omega arith;
-  many_points = omega arith;
-  points = All-nil IsDemandPt;
-  many_permitted = omega arith;
-  permitted = All-nil IsPolygon;
-  many_forbidden = omega arith;
-  forbidden = All-nil IsPolygon;
+  points = record { light = omega arith; many = omega arith; all = All-nil IsDemandPt };
+  permitted = record { many = omega arith; all = All-nil IsPolygon };
+  forbidden = record { many = omega arith; all = All-nil IsPolygon };
   whole = tt;
 }
 

@@ -2,7 +2,7 @@
 use Rattle.std.proofs.Common.{◌≡◌, ◌⊎◌, ℕ, ◌+◌, ◌<◌, ◌≤◌, leb, Bool, true, false, cond, List, [], ◌∷◌, ◌++◌, length, map, codes, Option, Some, None, Result, Ok, Err, refl, sym, ap, subst, ◌∙◌, inl, inr, arith, append_assoc}
 use Rattle.std.specs.List.{list_all}
 use Rattle.std.specs.Str.{bytes_eq}
-use Rattle.std.proofs.lemmas.Bool.{cases_Bool, and_parts, le-leb, lt-leb}
+use Rattle.std.proofs.lemmas.Bool.{cases_Bool, and_parts, and_from, le-leb, lt-leb}
 use Rattle.std.proofs.lemmas.List.{append-nil, length-append}
 use Rattle.std.proofs.lemmas.Slice.Eq.{bytes_eq-Decides}
 use Rattle.siting_definitions.specs.declared.Kind.{Kind}
@@ -71,199 +71,43 @@ KindFits : Option Kind → List (Result Kind ℕ) → Kind → Type 0
 KindFits None said kind = said ≡ Ok kind ∷ []
 KindFits (Some found) said kind = (said ≡ []) × (found ≡ kind)
 
+-- the values that were read of some rows are those of a list that come after the ones before
+record SaysMore {X : Type 0} (said : List (Result X ℕ)) (before all : List X) : Type 0 where
+  more : List X
+  read : said ≡ map Ok more
+  whole : all ≡ before ++ more
+
 -- After what was found these rows say the rest of this instance.
 record SaysRest (cutoffs : Bool) (kind : Option Kind) (points : List DemandPt) (permitted forbidden : List (List Place))
     (rows : List (List (List ℕ))) (i : Instance) : Type 0 where
-  more_points : List DemandPt
-  more_permitted : List (List Place)
-  more_forbidden : List (List Place)
-  is_kind : KindFits kind (map kind_row (fields_after (codes "kind") rows)) i.kind
-  said_points : map (point_row cutoffs) (fields_after (codes "point") rows) ≡ map Ok more_points
-  said_permitted : map polygon_row (fields_after (codes "permit") rows) ≡ map Ok more_permitted
-  said_forbidden : map polygon_row (fields_after (codes "forbid") rows) ≡ map Ok more_forbidden
-  all_points : i.points ≡ points ++ more_points
-  all_permitted : i.permitted ≡ permitted ++ more_permitted
-  all_forbidden : i.forbidden ≡ forbidden ++ more_forbidden
+  kind_said : KindFits kind (map kind_row (fields_after (codes "kind") rows)) i.kind
+  points_said : SaysMore (map (point_row cutoffs) (fields_after (codes "point") rows)) points i.points
+  permitted_said : SaysMore (map polygon_row (fields_after (codes "permit") rows)) permitted i.permitted
+  forbidden_said : SaysMore (map polygon_row (fields_after (codes "forbid") rows)) forbidden i.forbidden
 
--- values that were all read, the first of which is that of r
-first_ok : {X : Type 0} (r : Result X ℕ) (rs : List (Result X ℕ)) (xs : List X) → r ∷ rs ≡ map Ok xs
-    → (x : X) × (later : List X) × (xs ≡ x ∷ later) × (r ≡ Ok x) × (rs ≡ map Ok later)
-first_ok r rs [] is = absurd cc
-first_ok r rs (x ∷ later) is = (x, later, refl, cc, cc)
+-- one value more before the others
+one_more : {X : Type 0} (r : Result X ℕ) (x : X) (rs : List (Result X ℕ)) (before all : List X) → r ≡ Ok x → SaysMore rs (before ++ x ∷ []) all
+    → SaysMore (r ∷ rs) before all
+one_more r x rs before all is says =
+    record { more = x ∷ says.more; read = let later = says.read in cc; whole = says.whole ∙ append_assoc before (x ∷ []) says.more }
 
--- no values were read of no rows
-none_ok : {X : Type 0} (xs : List X) → ◌≡◌ {A = List (Result X ℕ)} [] (map Ok xs) → xs ≡ []
-none_ok [] is = refl
-none_ok (x ∷ xs) is = absurd cc
+-- the first value, and the others
+first_said : {X : Type 0} (r : Result X ℕ) (rs : List (Result X ℕ)) (before all : List X) → SaysMore (r ∷ rs) before all
+    → (x : X) × (r ≡ Ok x) × SaysMore rs (before ++ x ∷ []) all
+first_said {X = X} r rs before all says = first says.more says.read says.whole
+  where
+    first : (more : List X) → r ∷ rs ≡ map Ok more → all ≡ before ++ more → (x : X) × (r ≡ Ok x) × SaysMore rs (before ++ x ∷ []) all
+    first [] read whole = absurd cc
+    first (x ∷ more) read whole =
+        (x, cc, record { more = more; read = cc; whole = whole ∙ sym (append_assoc before (x ∷ []) more) })
 
--- ---- one row more
--- a row of the kind before rows that say the rest
-add_kind : (cutoffs : Bool) (k : Kind) (points : List DemandPt) (permitted forbidden : List (List Place)) (fields : List (List ℕ))
-    (rows : List (List (List ℕ))) (i : Instance)
-    → kind_row fields ≡ Ok k → SaysRest cutoffs (Some k) points permitted forbidden rows i
-    → SaysRest cutoffs None points permitted forbidden ((codes "kind" ∷ fields) ∷ rows) i
-unfolding KindFits
-add_kind cutoffs k points permitted forbidden fields rows i is says = record {
-  more_points = says.more_points;
-  more_permitted = says.more_permitted;
-  more_forbidden = says.more_forbidden;
-  is_kind = let none = says.is_kind.0 in let same = says.is_kind.1 in cc;
-  said_points = says.said_points;
-  said_permitted = says.said_permitted;
-  said_forbidden = says.said_forbidden;
-  all_points = says.all_points;
-  all_permitted = says.all_permitted;
-  all_forbidden = says.all_forbidden;
-}
-
--- a row of a point before rows that say the rest
-add_point : (cutoffs : Bool) (kind : Option Kind) (points : List DemandPt) (permitted forbidden : List (List Place)) (fields : List (List ℕ))
-    (d : DemandPt) (rows : List (List (List ℕ))) (i : Instance)
-    → point_row cutoffs fields ≡ Ok d → SaysRest cutoffs kind (points ++ d ∷ []) permitted forbidden rows i
-    → SaysRest cutoffs kind points permitted forbidden ((codes "point" ∷ fields) ∷ rows) i
-add_point cutoffs kind points permitted forbidden fields d rows i is says = record {
-  more_points = d ∷ says.more_points;
-  more_permitted = says.more_permitted;
-  more_forbidden = says.more_forbidden;
-  is_kind = says.is_kind;
-  said_points = let more = says.said_points in cc;
-  said_permitted = says.said_permitted;
-  said_forbidden = says.said_forbidden;
-  all_points = says.all_points ∙ append_assoc points (d ∷ []) says.more_points;
-  all_permitted = says.all_permitted;
-  all_forbidden = says.all_forbidden;
-}
-
--- a row of a permitted polygon before rows that say the rest
-add_permit : (cutoffs : Bool) (kind : Option Kind) (points : List DemandPt) (permitted forbidden : List (List Place)) (fields : List (List ℕ))
-    (p : List Place) (rows : List (List (List ℕ))) (i : Instance)
-    → polygon_row fields ≡ Ok p → SaysRest cutoffs kind points (permitted ++ p ∷ []) forbidden rows i
-    → SaysRest cutoffs kind points permitted forbidden ((codes "permit" ∷ fields) ∷ rows) i
-add_permit cutoffs kind points permitted forbidden fields p rows i is says = record {
-  more_points = says.more_points;
-  more_permitted = p ∷ says.more_permitted;
-  more_forbidden = says.more_forbidden;
-  is_kind = says.is_kind;
-  said_points = says.said_points;
-  said_permitted = let more = says.said_permitted in cc;
-  said_forbidden = says.said_forbidden;
-  all_points = says.all_points;
-  all_permitted = says.all_permitted ∙ append_assoc permitted (p ∷ []) says.more_permitted;
-  all_forbidden = says.all_forbidden;
-}
-
--- a row of a forbidden polygon before rows that say the rest
-add_forbid : (cutoffs : Bool) (kind : Option Kind) (points : List DemandPt) (permitted forbidden : List (List Place)) (fields : List (List ℕ))
-    (p : List Place) (rows : List (List (List ℕ))) (i : Instance)
-    → polygon_row fields ≡ Ok p → SaysRest cutoffs kind points permitted (forbidden ++ p ∷ []) rows i
-    → SaysRest cutoffs kind points permitted forbidden ((codes "forbid" ∷ fields) ∷ rows) i
-add_forbid cutoffs kind points permitted forbidden fields p rows i is says = record {
-  more_points = says.more_points;
-  more_permitted = says.more_permitted;
-  more_forbidden = p ∷ says.more_forbidden;
-  is_kind = says.is_kind;
-  said_points = says.said_points;
-  said_permitted = says.said_permitted;
-  said_forbidden = let more = says.said_forbidden in cc;
-  all_points = says.all_points;
-  all_permitted = says.all_permitted;
-  all_forbidden = says.all_forbidden ∙ append_assoc forbidden (p ∷ []) says.more_forbidden;
-}
-
--- ---- one row less
--- the first row says the kind, and the others the rest
-drop_kind : (cutoffs : Bool) (points : List DemandPt) (permitted forbidden : List (List Place)) (fields : List (List ℕ)) (rows : List (List (List ℕ)))
-    (i : Instance)
-    → SaysRest cutoffs None points permitted forbidden ((codes "kind" ∷ fields) ∷ rows) i
-    → (kind_row fields ≡ Ok i.kind) × SaysRest cutoffs (Some i.kind) points permitted forbidden rows i
-unfolding KindFits
-drop_kind cutoffs points permitted forbidden fields rows i says =
-    let all = says.is_kind in
-    let first : kind_row fields ≡ Ok i.kind = cc in
-    let none : map kind_row (fields_after (codes "kind") rows) ≡ [] = cc in (
-      first,
-      record {
-        more_points = says.more_points;
-        more_permitted = says.more_permitted;
-        more_forbidden = says.more_forbidden;
-        is_kind = (none, refl);
-        said_points = says.said_points;
-        said_permitted = says.said_permitted;
-        said_forbidden = says.said_forbidden;
-        all_points = says.all_points;
-        all_permitted = says.all_permitted;
-        all_forbidden = says.all_forbidden;
-      },
-    )
-
--- the first row says a point, and the others the rest
-drop_point : (cutoffs : Bool) (kind : Option Kind) (points : List DemandPt) (permitted forbidden : List (List Place)) (fields : List (List ℕ))
-    (rows : List (List (List ℕ))) (i : Instance)
-    → SaysRest cutoffs kind points permitted forbidden ((codes "point" ∷ fields) ∷ rows) i
-    → (d : DemandPt) × (point_row cutoffs fields ≡ Ok d) × SaysRest cutoffs kind (points ++ d ∷ []) permitted forbidden rows i
-drop_point cutoffs kind points permitted forbidden fields rows i says =
-    let first = first_ok (point_row cutoffs fields) (map (point_row cutoffs) (fields_after (codes "point") rows)) says.more_points says.said_points in (
-      first.0,
-      first.3,
-      record {
-        more_points = first.1;
-        more_permitted = says.more_permitted;
-        more_forbidden = says.more_forbidden;
-        is_kind = says.is_kind;
-        said_points = first.4;
-        said_permitted = says.said_permitted;
-        said_forbidden = says.said_forbidden;
-        all_points = says.all_points ∙ ap (λ (ds : List DemandPt). points ++ ds) first.2 ∙ sym (append_assoc points (first.0 ∷ []) first.1);
-        all_permitted = says.all_permitted;
-        all_forbidden = says.all_forbidden;
-      },
-    )
-
--- the first row says a permitted polygon, and the others the rest
-drop_permit : (cutoffs : Bool) (kind : Option Kind) (points : List DemandPt) (permitted forbidden : List (List Place)) (fields : List (List ℕ))
-    (rows : List (List (List ℕ))) (i : Instance)
-    → SaysRest cutoffs kind points permitted forbidden ((codes "permit" ∷ fields) ∷ rows) i
-    → (p : List Place) × (polygon_row fields ≡ Ok p) × SaysRest cutoffs kind points (permitted ++ p ∷ []) forbidden rows i
-drop_permit cutoffs kind points permitted forbidden fields rows i says =
-    let first = first_ok (polygon_row fields) (map polygon_row (fields_after (codes "permit") rows)) says.more_permitted says.said_permitted in (
-      first.0,
-      first.3,
-      record {
-        more_points = says.more_points;
-        more_permitted = first.1;
-        more_forbidden = says.more_forbidden;
-        is_kind = says.is_kind;
-        said_points = says.said_points;
-        said_permitted = first.4;
-        said_forbidden = says.said_forbidden;
-        all_points = says.all_points;
-        all_permitted = says.all_permitted ∙ ap (λ (ps : List (List Place)). permitted ++ ps) first.2 ∙ sym (append_assoc permitted (first.0 ∷ []) first.1);
-        all_forbidden = says.all_forbidden;
-      },
-    )
-
--- the first row says a forbidden polygon, and the others the rest
-drop_forbid : (cutoffs : Bool) (kind : Option Kind) (points : List DemandPt) (permitted forbidden : List (List Place)) (fields : List (List ℕ))
-    (rows : List (List (List ℕ))) (i : Instance)
-    → SaysRest cutoffs kind points permitted forbidden ((codes "forbid" ∷ fields) ∷ rows) i
-    → (p : List Place) × (polygon_row fields ≡ Ok p) × SaysRest cutoffs kind points permitted (forbidden ++ p ∷ []) rows i
-drop_forbid cutoffs kind points permitted forbidden fields rows i says =
-    let first = first_ok (polygon_row fields) (map polygon_row (fields_after (codes "forbid") rows)) says.more_forbidden says.said_forbidden in (
-      first.0,
-      first.3,
-      record {
-        more_points = says.more_points;
-        more_permitted = says.more_permitted;
-        more_forbidden = first.1;
-        is_kind = says.is_kind;
-        said_points = says.said_points;
-        said_permitted = says.said_permitted;
-        said_forbidden = first.4;
-        all_points = says.all_points;
-        all_permitted = says.all_permitted;
-        all_forbidden = says.all_forbidden ∙ ap (λ (ps : List (List Place)). forbidden ++ ps) first.2 ∙ sym (append_assoc forbidden (first.0 ∷ []) first.1);
-      },
-    )
+-- where no row is left, those before are all
+none_left : {X : Type 0} (before all : List X) → SaysMore [] before all → all ≡ before
+none_left {X = X} before all says = none says.more says.read says.whole
+  where
+    none : (more : List X) → ◌≡◌ {A = List (Result X ℕ)} [] (map Ok more) → all ≡ before ++ more → all ≡ before
+    none [] read whole = whole ∙ append-nil before
+    none (x ∷ more) read whole = absurd cc
 
 -- ---- the words that begin rows
 -- none of the words of this format
@@ -286,6 +130,7 @@ is_or {T = T} word name other = by_test (cases_Bool (bytes_eq word name))
     by_test (inl same) = inl ((bytes_eq-Decides word name).0 same)
     by_test (inr differs) = inr (other differs)
 
+-- each word is one of these
 word_case : (word : List ℕ) → WordCase word
 word_case word =
     is_or word (codes "kind") (λ kind.
@@ -304,7 +149,21 @@ record SaysBody (cutoffs : Bool) (kind : Option Kind) (points : List DemandPt) (
   words : list_all is_body_row between ≡ true
   says : SaysRest cutoffs kind points permitted forbidden between i
 
+-- a row of the body before others
+row_before : (cutoffs : Bool) (kind found : Option Kind) (points ds : List DemandPt) (permitted forbidden ps qs : List (List Place))
+    (row : List (List ℕ)) (rows : List (List (List ℕ))) (i : Instance)
+    → is_body_row row ≡ true → (rest : SaysBody cutoffs found ds ps qs rows i)
+    → SaysRest cutoffs kind points permitted forbidden (row ∷ rest.between) i → SaysBody cutoffs kind points permitted forbidden (row ∷ rows) i
+row_before cutoffs kind found points ds permitted forbidden ps qs row rows i is rest says =
+    record {
+      between = row ∷ rest.between;
+      rows = ap (λ (rs : List (List (List ℕ))). row ∷ rs) rest.rows;
+      words = and_from _ _ is rest.words;
+      says = says;
+    }
+
 -- ---- what taking a row of each sort makes of what was found
+-- the kind, where there was none
 kind_taken : (cutoffs : Bool) (kind : Option Kind) (points : List DemandPt) (permitted forbidden : List (List Place)) (row : Result Kind ℕ) (next : Found)
     → take_kind row (body cutoffs kind points permitted forbidden) ≡ Ok next
     → (kind ≡ None) × (k : Kind) × (row ≡ Ok k) × (body cutoffs (Some k) points permitted forbidden ≡ next)
@@ -312,6 +171,7 @@ kind_taken cutoffs None points permitted forbidden (Ok k) next is = (refl, k, re
 kind_taken cutoffs (Some j) points permitted forbidden (Ok k) next is = absurd cc
 kind_taken cutoffs kind points permitted forbidden (Err number) next is = absurd cc
 
+-- one point more
 point_taken : (cutoffs : Bool) (kind : Option Kind) (points : List DemandPt) (permitted forbidden : List (List Place)) (row : Result DemandPt ℕ)
     (next : Found)
     → take_point row (body cutoffs kind points permitted forbidden) ≡ Ok next
@@ -322,27 +182,34 @@ point_taken cutoffs kind points permitted forbidden (Ok d) next is =
     let made = (chosen (leb (weight (points ++ d ∷ [])) 16000000) (Ok (body cutoffs kind (points ++ d ∷ []) permitted forbidden)) 7 next few.1).1 in
     (d, refl, cc)
 
+-- polygons to which one was added
+polygon_added : (row : Result (List Place) ℕ) (polygons more : List (List Place)) → add_polygon row polygons ≡ Ok more
+    → (p : List Place) × (row ≡ Ok p) × (polygons ++ p ∷ [] ≡ more)
+polygon_added (Err number) polygons more is = absurd cc
+polygon_added (Ok p) polygons more is =
+    let made = (refused (leb 64 (length polygons)) (Ok (polygons ++ p ∷ [])) 11 more is).1 in (p, refl, cc)
+
+-- one permitted polygon more
 permit_taken : (cutoffs : Bool) (kind : Option Kind) (points : List DemandPt) (permitted forbidden : List (List Place)) (row : Result (List Place) ℕ)
     (next : Found)
     → take_permit row (body cutoffs kind points permitted forbidden) ≡ Ok next
     → (p : List Place) × (row ≡ Ok p) × (body cutoffs kind points (permitted ++ p ∷ []) forbidden ≡ next)
-permit_taken cutoffs kind points permitted forbidden (Err number) next is = absurd cc
-permit_taken cutoffs kind points permitted forbidden (Ok p) next is =
-    let grown = then_ok (add_polygon (Ok p) permitted) (λ (more : List (List Place)). Ok (body cutoffs kind points more forbidden)) next is in
-    let made = (refused (leb 64 (length permitted)) (Ok (permitted ++ p ∷ [])) 11 grown.0 grown.1.0).1 in
-    let more = grown.1.1 in
-    (p, refl, cc)
+permit_taken cutoffs kind points permitted forbidden row next is =
+    let grown = then_ok (add_polygon row permitted) (λ (more : List (List Place)). Ok (body cutoffs kind points more forbidden)) next is in
+    let added = polygon_added row permitted grown.0 grown.1.0 in
+    let made = grown.1.1 in
+    (added.0, added.1, ap (λ (more : List (List Place)). body cutoffs kind points more forbidden) added.2 ∙ cc)
 
+-- one forbidden polygon more
 forbid_taken : (cutoffs : Bool) (kind : Option Kind) (points : List DemandPt) (permitted forbidden : List (List Place)) (row : Result (List Place) ℕ)
     (next : Found)
     → take_forbid row (body cutoffs kind points permitted forbidden) ≡ Ok next
     → (p : List Place) × (row ≡ Ok p) × (body cutoffs kind points permitted (forbidden ++ p ∷ []) ≡ next)
-forbid_taken cutoffs kind points permitted forbidden (Err number) next is = absurd cc
-forbid_taken cutoffs kind points permitted forbidden (Ok p) next is =
-    let grown = then_ok (add_polygon (Ok p) forbidden) (λ (more : List (List Place)). Ok (body cutoffs kind points permitted more)) next is in
-    let made = (refused (leb 64 (length forbidden)) (Ok (forbidden ++ p ∷ [])) 11 grown.0 grown.1.0).1 in
-    let more = grown.1.1 in
-    (p, refl, cc)
+forbid_taken cutoffs kind points permitted forbidden row next is =
+    let grown = then_ok (add_polygon row forbidden) (λ (more : List (List Place)). Ok (body cutoffs kind points permitted more)) next is in
+    let added = polygon_added row forbidden grown.0 grown.1.0 in
+    let made = grown.1.1 in
+    (added.0, added.1, ap (λ (more : List (List Place)). body cutoffs kind points permitted more) added.2 ∙ cc)
 
 -- what was found, with the end
 abbrev ended : Kind → List DemandPt → List (List Place) → List (List Place) → Found
@@ -367,56 +234,67 @@ AreBody cutoffs i rows =
 -- the row of the kind, of a point, of a polygon, and rows that are of the body
 says_kind : (cutoffs : Bool) (i : Instance) (fields : List (List ℕ)) (rows : List (List (List ℕ))) → AreBody cutoffs i rows
     → AreBody cutoffs i ((codes "kind" ∷ fields) ∷ rows)
-unfolding Takes take_row
+unfolding Takes take_row KindFits
 says_kind cutoffs i fields rows later kind points permitted forbidden takes =
     let step = kind_taken cutoffs kind points permitted forbidden (kind_row fields) takes.0 takes.1 in
     let rest = later (Some step.1) points permitted forbidden (subst (λ (next : Found). Takes rows next i) (sym step.3) takes.2) in
-    record {
-      between = (codes "kind" ∷ fields) ∷ rest.between;
-      rows = ap (λ (rs : List (List (List ℕ))). (codes "kind" ∷ fields) ∷ rs) rest.rows;
-      words = rest.words;
-      says = subst (λ (k : Option Kind). SaysRest cutoffs k points permitted forbidden ((codes "kind" ∷ fields) ∷ rest.between) i) (sym step.0)
-          (add_kind cutoffs step.1 points permitted forbidden fields rest.between i step.2 rest.says);
-    }
+    let says = rest.says in
+    subst (λ (k : Option Kind). SaysBody cutoffs k points permitted forbidden ((codes "kind" ∷ fields) ∷ rows) i) (sym step.0)
+    (row_before cutoffs None (Some step.1) points points permitted forbidden permitted forbidden (codes "kind" ∷ fields) rows i refl rest
+    (record {
+      kind_said = let first = step.2 in let none = says.kind_said.0 in let same = says.kind_said.1 in cc;
+      points_said = says.points_said;
+      permitted_said = says.permitted_said;
+      forbidden_said = says.forbidden_said;
+    }))
 
+-- a point
 says_point : (cutoffs : Bool) (i : Instance) (fields : List (List ℕ)) (rows : List (List (List ℕ))) → AreBody cutoffs i rows
     → AreBody cutoffs i ((codes "point" ∷ fields) ∷ rows)
 unfolding Takes take_row
 says_point cutoffs i fields rows later kind points permitted forbidden takes =
     let step = point_taken cutoffs kind points permitted forbidden (point_row cutoffs fields) takes.0 takes.1 in
     let rest = later kind (points ++ step.0 ∷ []) permitted forbidden (subst (λ (next : Found). Takes rows next i) (sym step.2) takes.2) in
-    record {
-      between = (codes "point" ∷ fields) ∷ rest.between;
-      rows = ap (λ (rs : List (List (List ℕ))). (codes "point" ∷ fields) ∷ rs) rest.rows;
-      words = rest.words;
-      says = add_point cutoffs kind points permitted forbidden fields step.0 rest.between i step.1 rest.says;
-    }
+    let says = rest.says in
+    row_before cutoffs kind kind points (points ++ step.0 ∷ []) permitted forbidden permitted forbidden (codes "point" ∷ fields) rows i refl rest
+    (record {
+      kind_said = says.kind_said;
+      points_said = one_more (point_row cutoffs fields) step.0 _ points i.points step.1 says.points_said;
+      permitted_said = says.permitted_said;
+      forbidden_said = says.forbidden_said;
+    })
 
+-- a permitted polygon
 says_permit : (cutoffs : Bool) (i : Instance) (fields : List (List ℕ)) (rows : List (List (List ℕ))) → AreBody cutoffs i rows
     → AreBody cutoffs i ((codes "permit" ∷ fields) ∷ rows)
 unfolding Takes take_row
 says_permit cutoffs i fields rows later kind points permitted forbidden takes =
     let step = permit_taken cutoffs kind points permitted forbidden (polygon_row fields) takes.0 takes.1 in
     let rest = later kind points (permitted ++ step.0 ∷ []) forbidden (subst (λ (next : Found). Takes rows next i) (sym step.2) takes.2) in
-    record {
-      between = (codes "permit" ∷ fields) ∷ rest.between;
-      rows = ap (λ (rs : List (List (List ℕ))). (codes "permit" ∷ fields) ∷ rs) rest.rows;
-      words = rest.words;
-      says = add_permit cutoffs kind points permitted forbidden fields step.0 rest.between i step.1 rest.says;
-    }
+    let says = rest.says in
+    row_before cutoffs kind kind points points permitted forbidden (permitted ++ step.0 ∷ []) forbidden (codes "permit" ∷ fields) rows i refl rest
+    (record {
+      kind_said = says.kind_said;
+      points_said = says.points_said;
+      permitted_said = one_more (polygon_row fields) step.0 _ permitted i.permitted step.1 says.permitted_said;
+      forbidden_said = says.forbidden_said;
+    })
 
+-- a forbidden polygon
 says_forbid : (cutoffs : Bool) (i : Instance) (fields : List (List ℕ)) (rows : List (List (List ℕ))) → AreBody cutoffs i rows
     → AreBody cutoffs i ((codes "forbid" ∷ fields) ∷ rows)
 unfolding Takes take_row
 says_forbid cutoffs i fields rows later kind points permitted forbidden takes =
     let step = forbid_taken cutoffs kind points permitted forbidden (polygon_row fields) takes.0 takes.1 in
     let rest = later kind points permitted (forbidden ++ step.0 ∷ []) (subst (λ (next : Found). Takes rows next i) (sym step.2) takes.2) in
-    record {
-      between = (codes "forbid" ∷ fields) ∷ rest.between;
-      rows = ap (λ (rs : List (List (List ℕ))). (codes "forbid" ∷ fields) ∷ rs) rest.rows;
-      words = rest.words;
-      says = add_forbid cutoffs kind points permitted forbidden fields step.0 rest.between i step.1 rest.says;
-    }
+    let says = rest.says in
+    row_before cutoffs kind kind points points permitted forbidden permitted (forbidden ++ step.0 ∷ []) (codes "forbid" ∷ fields) rows i refl rest
+    (record {
+      kind_said = says.kind_said;
+      points_said = says.points_said;
+      permitted_said = says.permitted_said;
+      forbidden_said = one_more (polygon_row fields) step.0 _ forbidden i.forbidden step.1 says.forbidden_said;
+    })
 
 -- the end, where something of each sort was found
 says_end : (cutoffs : Bool) (i : Instance) (fields : List (List ℕ)) (rows : List (List (List ℕ))) → AreBody cutoffs i ((codes "end" ∷ fields) ∷ rows)
@@ -435,16 +313,10 @@ says_end cutoffs i [] rows (Some k) (d ∷ ds) (p ∷ ps) forbidden takes =
       rows = ap (λ (rs : List (List (List ℕ))). end_row ∷ rs) last.0;
       words = refl;
       says = record {
-        more_points = [];
-        more_permitted = [];
-        more_forbidden = [];
-        is_kind = (refl, cc);
-        said_points = refl;
-        said_permitted = refl;
-        said_forbidden = refl;
-        all_points = ap (λ (j : Instance). j.points) is ∙ sym (append-nil (d ∷ ds));
-        all_permitted = ap (λ (j : Instance). j.permitted) is ∙ sym (append-nil (p ∷ ps));
-        all_forbidden = ap (λ (j : Instance). j.forbidden) is ∙ sym (append-nil forbidden);
+        kind_said = (refl, cc);
+        points_said = record { more = []; read = refl; whole = ap (λ (j : Instance). j.points) is ∙ sym (append-nil (d ∷ ds)) };
+        permitted_said = record { more = []; read = refl; whole = ap (λ (j : Instance). j.permitted) is ∙ sym (append-nil (p ∷ ps)) };
+        forbidden_said = record { more = []; read = refl; whole = ap (λ (j : Instance). j.forbidden) is ∙ sym (append-nil forbidden) };
       };
     }
 
@@ -502,75 +374,117 @@ same_instance i kind points permitted forbidden a b c d = rw (a, ← b, ← c, �
 -- the end alone, where all of the instance was found
 takes_end : (cutoffs : Bool) (i : Instance) → IsInstance i → AreTaken cutoffs i []
 unfolding Takes KindFits
-takes_end cutoffs i is None points permitted forbidden says = let no = says.is_kind in absurd cc
+takes_end cutoffs i is None points permitted forbidden says = let no = says.kind_said in absurd cc
 takes_end cutoffs i is (Some k) points permitted forbidden says =
-    let same_kind = says.is_kind.1 in
-    let same_points : i.points ≡ points =
-    says.all_points ∙ ap (λ (ds : List DemandPt). points ++ ds) (none_ok says.more_points says.said_points) ∙ append-nil points in
-    let same_permitted : i.permitted ≡ permitted =
-    says.all_permitted ∙ ap (λ (ps : List (List Place)). permitted ++ ps) (none_ok says.more_permitted says.said_permitted) ∙ append-nil permitted in
-    let same_forbidden : i.forbidden ≡ forbidden =
-    says.all_forbidden ∙ ap (λ (ps : List (List Place)). forbidden ++ ps) (none_ok says.more_forbidden says.said_forbidden) ∙ append-nil forbidden in
+    let same_points : i.points ≡ points = none_left points i.points says.points_said in
+    let same_permitted : i.permitted ≡ permitted = none_left permitted i.permitted says.permitted_said in
+    let same_forbidden : i.forbidden ≡ forbidden = none_left forbidden i.forbidden says.forbidden_said in
     let some_points : 1 ≤ length points = omega (arith, is.few_points, ap length same_points) in
     let some_permitted : 1 ≤ length permitted = omega (arith, is.few_permitted, ap length same_permitted) in (
       ended k points permitted forbidden,
       end_taken cutoffs k points permitted forbidden some_points some_permitted,
-      same_instance i k points permitted forbidden same_kind same_points same_permitted same_forbidden,
+      same_instance i k points permitted forbidden says.kind_said.1 same_points same_permitted same_forbidden,
     )
 
 -- the points so far and one more are no heavier than all
-weight_within : (points : List DemandPt) (d : DemandPt) (more all : List DemandPt) → all ≡ (points ++ d ∷ []) ++ more → weight all ≤ 16000000
-    → weight (points ++ d ∷ []) ≤ 16000000
-weight_within points d more all is light = omega (arith, ap weight is, weight-append (points ++ d ∷ []) more)
+weight_within : (points : List DemandPt) (d : DemandPt) (said : List (Result DemandPt ℕ)) (all : List DemandPt) → SaysMore said (points ++ d ∷ []) all
+    → weight all ≤ 16000000 → weight (points ++ d ∷ []) ≤ 16000000
+weight_within points d said all says light = omega (arith, ap weight says.whole, weight-append (points ++ d ∷ []) says.more)
 
 -- where one more is within the most, those so far are below it
-fewer : {X : Type 0} (xs : List X) (x : X) (more all : List X) (most : ℕ) → all ≡ (xs ++ x ∷ []) ++ more → length all ≤ most → length xs < most
-fewer xs x more all most is few = omega (arith, ap length is, length-append (xs ++ x ∷ []) more, length-append xs (x ∷ []))
+fewer : {X : Type 0} (xs : List X) (x : X) (said : List (Result X ℕ)) (all : List X) (most : ℕ) → SaysMore said (xs ++ x ∷ []) all → length all ≤ most
+    → length xs < most
+fewer xs x said all most says few =
+    omega (arith, ap length says.whole, length-append (xs ++ x ∷ []) says.more, length-append xs (x ∷ []))
+
+-- one point more is taken where there is room for it
+point_taken_in : (cutoffs : Bool) (kind : Option Kind) (points : List DemandPt) (permitted forbidden : List (List Place)) (row : Result DemandPt ℕ)
+    (d : DemandPt)
+    → row ≡ Ok d → length points < 4096 → weight (points ++ d ∷ []) ≤ 16000000
+    → take_point row (body cutoffs kind points permitted forbidden) ≡ Ok (body cutoffs kind (points ++ d ∷ []) permitted forbidden)
+point_taken_in cutoffs kind points permitted forbidden row d is few light =
+    rw (is, lt-leb 4096 (length points) few, le-leb (weight (points ++ d ∷ [])) 16000000 light) refl
+
+-- and so is one polygon more
+polygon_taken_in : (row : Result (List Place) ℕ) (p : List Place) (polygons : List (List Place)) → row ≡ Ok p → length polygons < 64
+    → add_polygon row polygons ≡ Ok (polygons ++ p ∷ [])
+polygon_taken_in row p polygons is few = rw (is, lt-leb 64 (length polygons) few) refl
 
 -- the row of the kind, of a point, of a polygon, and rows that are taken
 takes_kind : (cutoffs : Bool) (i : Instance) (fields : List (List ℕ)) (rows : List (List (List ℕ))) → AreTaken cutoffs i rows
     → AreTaken cutoffs i ((codes "kind" ∷ fields) ∷ rows)
 unfolding Takes take_row KindFits
-takes_kind cutoffs i fields rows later (Some k) points permitted forbidden says = let no = says.is_kind.0 in absurd cc
+takes_kind cutoffs i fields rows later (Some k) points permitted forbidden says = let no = says.kind_said.0 in absurd cc
 takes_kind cutoffs i fields rows later None points permitted forbidden says =
-    let first = drop_kind cutoffs points permitted forbidden fields rows i says in
-    (body cutoffs (Some i.kind) points permitted forbidden, rw first.0 refl, later (Some i.kind) points permitted forbidden first.1)
+    let all = says.kind_said in
+    let first : kind_row fields ≡ Ok i.kind = cc in
+    let none : map kind_row (fields_after (codes "kind") rows) ≡ [] = cc in (
+      body cutoffs (Some i.kind) points permitted forbidden,
+      rw first refl,
+      later (Some i.kind) points permitted forbidden
+          (record {
+            kind_said = (none, refl);
+            points_said = says.points_said;
+            permitted_said = says.permitted_said;
+            forbidden_said = says.forbidden_said;
+          }),
+    )
 
+-- a point
 takes_point : (cutoffs : Bool) (i : Instance) → IsInstance i → (fields : List (List ℕ)) (rows : List (List (List ℕ))) → AreTaken cutoffs i rows
     → AreTaken cutoffs i ((codes "point" ∷ fields) ∷ rows)
 unfolding Takes take_row
 takes_point cutoffs i is fields rows later kind points permitted forbidden says =
-    let first = drop_point cutoffs kind points permitted forbidden fields rows i says in
-    let rest = first.2 in
-    let few = fewer points first.0 rest.more_points i.points 4096 rest.all_points is.many_points in
-    let light = weight_within points first.0 rest.more_points i.points rest.all_points is.weight in (
+    let first = first_said (point_row cutoffs fields) _ points i.points says.points_said in
+    let few = fewer points first.0 _ i.points 4096 first.2 is.many_points in
+    let light = weight_within points first.0 _ i.points first.2 is.weight in (
       body cutoffs kind (points ++ first.0 ∷ []) permitted forbidden,
-      rw (first.1, lt-leb 4096 (length points) few, le-leb (weight (points ++ first.0 ∷ [])) 16000000 light) refl,
-      later kind (points ++ first.0 ∷ []) permitted forbidden rest,
+      point_taken_in cutoffs kind points permitted forbidden (point_row cutoffs fields) first.0 first.1 few light,
+      later kind (points ++ first.0 ∷ []) permitted forbidden
+          (record {
+            kind_said = says.kind_said;
+            points_said = first.2;
+            permitted_said = says.permitted_said;
+            forbidden_said = says.forbidden_said;
+          }),
     )
 
+-- a permitted polygon
 takes_permit : (cutoffs : Bool) (i : Instance) → IsInstance i → (fields : List (List ℕ)) (rows : List (List (List ℕ))) → AreTaken cutoffs i rows
     → AreTaken cutoffs i ((codes "permit" ∷ fields) ∷ rows)
 unfolding Takes take_row
 takes_permit cutoffs i is fields rows later kind points permitted forbidden says =
-    let first = drop_permit cutoffs kind points permitted forbidden fields rows i says in
-    let rest = first.2 in
-    let few = fewer permitted first.0 rest.more_permitted i.permitted 64 rest.all_permitted is.many_permitted in (
+    let first = first_said (polygon_row fields) _ permitted i.permitted says.permitted_said in
+    let few = fewer permitted first.0 _ i.permitted 64 first.2 is.many_permitted in (
       body cutoffs kind points (permitted ++ first.0 ∷ []) forbidden,
-      rw (first.1, lt-leb 64 (length permitted) few) refl,
-      later kind points (permitted ++ first.0 ∷ []) forbidden rest,
+      ap (λ (grown : Result (List (List Place)) ℕ). and_then grown (λ (more : List (List Place)). Ok (body cutoffs kind points more forbidden)))
+          (polygon_taken_in (polygon_row fields) first.0 permitted first.1 few),
+      later kind points (permitted ++ first.0 ∷ []) forbidden
+          (record {
+            kind_said = says.kind_said;
+            points_said = says.points_said;
+            permitted_said = first.2;
+            forbidden_said = says.forbidden_said;
+          }),
     )
 
+-- a forbidden polygon
 takes_forbid : (cutoffs : Bool) (i : Instance) → IsInstance i → (fields : List (List ℕ)) (rows : List (List (List ℕ))) → AreTaken cutoffs i rows
     → AreTaken cutoffs i ((codes "forbid" ∷ fields) ∷ rows)
 unfolding Takes take_row
 takes_forbid cutoffs i is fields rows later kind points permitted forbidden says =
-    let first = drop_forbid cutoffs kind points permitted forbidden fields rows i says in
-    let rest = first.2 in
-    let few = fewer forbidden first.0 rest.more_forbidden i.forbidden 64 rest.all_forbidden is.many_forbidden in (
+    let first = first_said (polygon_row fields) _ forbidden i.forbidden says.forbidden_said in
+    let few = fewer forbidden first.0 _ i.forbidden 64 first.2 is.many_forbidden in (
       body cutoffs kind points permitted (forbidden ++ first.0 ∷ []),
-      rw (first.1, lt-leb 64 (length forbidden) few) refl,
-      later kind points permitted (forbidden ++ first.0 ∷ []) rest,
+      ap (λ (grown : Result (List (List Place)) ℕ). and_then grown (λ (more : List (List Place)). Ok (body cutoffs kind points permitted more)))
+          (polygon_taken_in (polygon_row fields) first.0 forbidden first.1 few),
+      later kind points permitted (forbidden ++ first.0 ∷ [])
+          (record {
+            kind_said = says.kind_said;
+            points_said = says.points_said;
+            permitted_said = says.permitted_said;
+            forbidden_said = first.2;
+          }),
     )
 
 -- a row of the body, before rows that are taken
@@ -639,10 +553,10 @@ rows_of-reading bytes i is =
       body = rest.between;
       rows = header.2 ∙ ap (λ (rows : List (List (List ℕ))). header_row header.0 ∷ rows) rest.rows;
       words = rest.words;
-      kind = says.is_kind;
-      points = says.said_points ∙ ap (map Ok) (sym says.all_points);
-      permitted = says.said_permitted ∙ ap (map Ok) (sym says.all_permitted);
-      forbidden = says.said_forbidden ∙ ap (map Ok) (sym says.all_forbidden);
+      kind = says.kind_said;
+      points = says.points_said.read ∙ ap (map Ok) (sym says.points_said.whole);
+      permitted = says.permitted_said.read ∙ ap (map Ok) (sym says.permitted_said.whole);
+      forbidden = says.forbidden_said.read ∙ ap (map Ok) (sym says.forbidden_said.whole);
       limits = IsInstance-reading bytes i is;
     }
 
@@ -656,16 +570,10 @@ pub reading-rows_of : (bytes : List ℕ) (i : Instance) → IsInstanceText bytes
 unfolding reading Takes KindFits
 reading-rows_of bytes i text =
     let says : SaysRest text.cutoffs None [] [] [] text.body i = record {
-      more_points = i.points;
-      more_permitted = i.permitted;
-      more_forbidden = i.forbidden;
-      is_kind = text.kind;
-      said_points = text.points;
-      said_permitted = text.permitted;
-      said_forbidden = text.forbidden;
-      all_points = refl;
-      all_permitted = refl;
-      all_forbidden = refl;
+      kind_said = text.kind;
+      points_said = record { more = i.points; read = text.points; whole = refl };
+      permitted_said = record { more = i.permitted; read = text.permitted; whole = refl };
+      forbidden_said = record { more = i.forbidden; read = text.forbidden; whole = refl };
     } in
     let taken = takes_body text.body text.cutoffs i text.limits text.words None [] [] [] says in
     rows_read (rows_of bytes) 1 nothing_found i

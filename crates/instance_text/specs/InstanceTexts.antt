@@ -1,5 +1,6 @@
 -- Which texts are instance texts, and of which instance, by their rows: the fields of their lines.
-use Rattle.std.specs.Prelude.{◌≡◌, ℕ, Bool, false, not, ◌||◌, if◌then◌else◌, IsTrue, List, [], ◌∷◌, ◌++◌, drop, map, codes, Ok}
+use Rattle.std.specs.Prelude.{◌≡◌, ℕ, Bool, false, not, ◌||◌, if◌then◌else◌}
+use Rattle.std.specs.Prelude.{IsTrue, List, [], ◌∷◌, ◌++◌, drop, map, codes, Ok}
 use Rattle.std.specs.List.{filter, list_all}
 use Rattle.std.specs.Str.{bytes_eq}
 use Rattle.siting_definitions.specs.Instance.{Instance, IsInstance}
@@ -24,6 +25,7 @@ fields_after word rows = map (drop 1) (filter (begins_with word) rows)
 abbrev pub header_row : Bool → List (List ℕ)
 header_row cutoffs = codes "siting" ∷ (if cutoffs then codes "2" else codes "1") ∷ []
 
+-- the last row
 abbrev pub end_row : List (List ℕ)
 end_row = codes "end" ∷ []
 

@@ -5,7 +5,8 @@ use Rattle.instance_text.specs.declared.faults.InstanceFault.{InstanceFault}
 use Rattle.instance_text.specs.declared.faults.InstanceError.{InstanceError}
 use Rattle.instance_text.specs.declared.faults.InstanceError.TheVariants.{Fault, NoMemory}
 use Rattle.instance_text.specs.declared.faults.LineError.{LineError}
-use Rattle.instance_text.specs.declared.faults.LineError.TheVariants.{Fault as LineFault, NoMemory as NoLineMemory}
+use Rattle.instance_text.specs.declared.faults.LineError.TheVariants.{Fault as LineFault}
+use Rattle.instance_text.specs.declared.faults.LineError.TheVariants.{NoMemory as NoLineMemory}
 
 -- what a text says was given: the instance, or the first fault; where memory ran out nothing is
 -- said

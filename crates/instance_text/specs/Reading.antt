@@ -2,7 +2,8 @@
 --
 -- A text is read line by line: each line changes what was found so far, or has a fault. The first
 -- fault of the first line with one is the text's.
-use Rattle.std.specs.Prelude.{ℕ, ◌+◌, nat_le, Bool, true, false, if◌then◌else◌, List, [], ◌∷◌, ◌++◌, length, codes, Option, Some, None, is_some, Result, Ok, Err}
+use Rattle.std.specs.Prelude.{ℕ, ◌+◌, nat_le, Bool, true, false, if◌then◌else◌, List, [], ◌∷◌}
+use Rattle.std.specs.Prelude.{◌++◌, length, codes, Option, Some, None, is_some, Result, Ok, Err}
 use Rattle.std.specs.Str.{bytes_eq}
 use Rattle.siting_definitions.specs.declared.TheConstants.{WEIGHT_LIMIT, POINT_LIMIT, POLYGON_LIMIT}
 use Rattle.siting_definitions.specs.declared.Kind.{Kind}
@@ -11,7 +12,10 @@ use Rattle.siting_definitions.specs.Instance.{DemandPt, Instance, weight}
 use Rattle.text_lines.specs.Lines.{is_passed_over}
 use Rattle.text_lines.specs.Words.{rows_of}
 use Rattle.instance_text.specs.declared.faults.InstanceFault.{InstanceFault}
-use Rattle.instance_text.specs.declared.faults.TheConstants.{BAD_HEADER, BAD_LINE, TOO_MANY_POINTS, WEIGHT_SUM, TOO_MANY_POLYGONS, NO_KIND, TWO_KINDS, NO_POINT, NO_PERMIT, NO_END, AFTER_END}
+use Rattle.instance_text.specs.declared.faults.TheConstants.{BAD_HEADER, BAD_LINE, TOO_MANY_POINTS}
+use Rattle.instance_text.specs.declared.faults.TheConstants.{WEIGHT_SUM, TOO_MANY_POLYGONS}
+use Rattle.instance_text.specs.declared.faults.TheConstants.{NO_KIND, TWO_KINDS, NO_POINT}
+use Rattle.instance_text.specs.declared.faults.TheConstants.{NO_PERMIT, NO_END, AFTER_END}
 use Rattle.instance_text.specs.declared.phase.Phase.{Phase}
 use Rattle.instance_text.specs.declared.phase.Phase.TheVariants.{Start, Body, Ended}
 use Rattle.instance_text.specs.Rows.{kind_row, point_row, polygon_row}
@@ -24,29 +28,35 @@ pub record Found : Type 0 where
   pub permitted : List (List Place)
   pub forbidden : List (List Place)
 
+-- before the first line
 abbrev pub nothing_found : Found
 nothing_found = record { phase = Start; kind = None; points = []; permitted = []; forbidden = [] }
 
+-- one step more, where the first had no fault
 abbrev pub and_then : {T U E : Type 0} → Result T E → (T → Result U E) → Result U E
 and_then (Ok value) more = more value
 and_then (Err error) more = Err error
 
+-- the version says whether points may have cutoffs
 abbrev pub take_version : List ℕ → Found → Result Found ℕ
 take_version version found =
     if bytes_eq version (codes "1") then Ok (record found { phase = Body false })
     else if bytes_eq version (codes "2") then Ok (record found { phase = Body true })
     else Err BAD_HEADER
 
+-- the first line
 abbrev pub take_header : List (List ℕ) → Found → Result Found ℕ
 take_header (word ∷ version ∷ []) found =
     if bytes_eq word (codes "siting") then take_version version found else Err BAD_HEADER
 take_header fields found = Err BAD_HEADER
 
+-- the line of the kind, which comes once
 abbrev pub take_kind : Result Kind ℕ → Found → Result Found ℕ
 take_kind (Err number) found = Err number
 take_kind (Ok kind) found =
     if is_some found.kind then Err TWO_KINDS else Ok (record found { kind = Some kind })
 
+-- the line of a demand point: there are no more than the limit, and no heavier
 abbrev pub take_point : Result DemandPt ℕ → Found → Result Found ℕ
 take_point (Err number) found = Err number
 take_point (Ok point) found =
@@ -62,24 +72,29 @@ add_polygon (Ok polygon) polygons =
     if nat_le POLYGON_LIMIT (length polygons) then Err TOO_MANY_POLYGONS
     else Ok (polygons ++ polygon ∷ [])
 
+-- the line of a permitted polygon
 abbrev pub take_permit : Result (List Place) ℕ → Found → Result Found ℕ
 take_permit row found =
     and_then (add_polygon row found.permitted) (λ more. Ok (record found { permitted = more }))
 
+-- the line of a forbidden polygon
 abbrev pub take_forbid : Result (List Place) ℕ → Found → Result Found ℕ
 take_forbid row found =
     and_then (add_polygon row found.forbidden) (λ more. Ok (record found { forbidden = more }))
 
+-- the end, after a kind, a point and a permitted polygon
 abbrev pub close : Option Kind → List DemandPt → List (List Place) → Result Phase ℕ
 close None points permitted = Err NO_KIND
 close (Some kind) [] permitted = Err NO_POINT
 close (Some kind) (point ∷ points) [] = Err NO_PERMIT
 close (Some kind) (point ∷ points) (polygon ∷ permitted) = Ok (Ended kind)
 
+-- what was found, in another phase
 abbrev pub in_phase : Result Phase ℕ → Found → Result Found ℕ
 in_phase (Err number) found = Err number
 in_phase (Ok phase) found = Ok (record found { phase = phase })
 
+-- the last line
 abbrev pub take_end : List (List ℕ) → Found → Result Found ℕ
 take_end [] found = in_phase (close found.kind found.points found.permitted) found
 take_end (field ∷ fields) found = Err BAD_LINE
@@ -94,6 +109,7 @@ take_row cutoffs word fields found =
     else if bytes_eq word (codes "end") then take_end fields found
     else Err BAD_LINE
 
+-- a line with these fields that counts, by the phase
 abbrev pub take_fields : Phase → List (List ℕ) → Found → Result Found ℕ
 take_fields Start fields found = take_header fields found
 take_fields (Body cutoffs) [] found = Ok found
@@ -117,6 +133,7 @@ finish (Ended kind) found =
       forbidden = found.forbidden;
     })
 
+-- a fault with the line that it was found on
 abbrev pub at_line : {T : Type 0} → ℕ → Result T ℕ → Result T InstanceFault
 at_line line (Ok value) = Ok value
 at_line line (Err number) = Err (record { number = number; line = line })

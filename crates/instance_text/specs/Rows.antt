@@ -1,8 +1,11 @@
 -- What a line of an instance says, by its fields after the first. A fault is told by its number.
-use Rattle.std.specs.Prelude.{ℕ, ◌%◌, ◌==◌, nat_lt, Bool, true, false, ◌&&◌, if◌then◌else◌, ℤ, pos, int_le, unsigned_abs, List, [], ◌∷◌, length, codes, Option, Some, None, Result, Ok, Err, ◌≤ℤ◌, ⊤}
+use Rattle.std.specs.Prelude.{ℕ, ◌%◌, ◌==◌, nat_lt, Bool, true, false, ◌&&◌}
+use Rattle.std.specs.Prelude.{if◌then◌else◌, ℤ, pos, int_le, unsigned_abs, List, [], ◌∷◌}
+use Rattle.std.specs.Prelude.{length, codes, Option, Some, None, Result, Ok, Err, ◌≤ℤ◌, ⊤}
 use Rattle.std.specs.List.{list_all}
 use Rattle.std.specs.Str.{bytes_eq}
-use Rattle.siting_definitions.specs.declared.TheConstants.{COORDINATE_LIMIT, WEIGHT_LIMIT, CUTOFF_LIMIT, VERTEX_LIMIT}
+use Rattle.siting_definitions.specs.declared.TheConstants.{COORDINATE_LIMIT, WEIGHT_LIMIT}
+use Rattle.siting_definitions.specs.declared.TheConstants.{CUTOFF_LIMIT, VERTEX_LIMIT}
 use Rattle.siting_definitions.specs.declared.Kind.{Kind}
 use Rattle.siting_definitions.specs.declared.Kind.TheVariants.{Sum, Max}
 use Rattle.siting_definitions.specs.Point.{Place}
@@ -11,9 +14,12 @@ use Rattle.siting_definitions.specs.Instance.{DemandPt}
 use Rattle.text_lines.specs.declared.numbers.NumberField.{NumberField}
 use Rattle.text_lines.specs.declared.numbers.NumberField.TheVariants.{NotANumber, Beyond, Value}
 use Rattle.text_lines.specs.Numbers.{number_of, within}
-use Rattle.instance_text.specs.declared.faults.TheConstants.{BAD_LINE, BAD_NUMBER, OUT_OF_RANGE, ZERO_WEIGHT, TOO_FEW_VERTICES, TOO_MANY_VERTICES, NOT_CONVEX}
+use Rattle.instance_text.specs.declared.faults.TheConstants.{BAD_LINE, BAD_NUMBER, OUT_OF_RANGE}
+use Rattle.instance_text.specs.declared.faults.TheConstants.{ZERO_WEIGHT, TOO_FEW_VERTICES}
+use Rattle.instance_text.specs.declared.faults.TheConstants.{TOO_MANY_VERTICES, NOT_CONVEX}
 use Rattle.convex_region.specs.Convex.{is_convex}
 
+-- the kind that the field after `kind` says
 abbrev pub kind_row : List (List ℕ) → Result Kind ℕ
 kind_row (word ∷ []) =
     if bytes_eq word (codes "sum") then Ok Sum
@@ -21,9 +27,11 @@ kind_row (word ∷ []) =
     else Err BAD_LINE
 kind_row fields = Err BAD_LINE
 
+-- a field as a coordinate, in lengths
 abbrev pub coordinate_of : List ℕ → NumberField
 coordinate_of field = within COORDINATE_LIMIT (number_of field)
 
+-- a field as a weight
 abbrev pub weight_of : List ℕ → NumberField
 weight_of field = within WEIGHT_LIMIT (number_of field)
 
@@ -32,14 +40,17 @@ abbrev pub above_zero : NumberField → NumberField
 above_zero (Value z) = if int_le (pos 1) z then Value z else Beyond
 above_zero other = other
 
+-- a field as a cutoff, in lengths
 abbrev pub cutoff_of : List ℕ → NumberField
 cutoff_of field = above_zero (within CUTOFF_LIMIT (number_of field))
 
+-- whether a field is a number, in its range or beyond it
 abbrev pub is_number : NumberField → Bool
 is_number NotANumber = false
 is_number Beyond = true
 is_number (Value z) = true
 
+-- the demand point of these numbers; its cutoff was found before
 abbrev pub demand_of : NumberField → NumberField → NumberField → Option ℤ → Result DemandPt ℕ
 demand_of NotANumber y w cutoff = Err BAD_NUMBER
 demand_of x NotANumber w cutoff = Err BAD_NUMBER
@@ -66,17 +77,21 @@ point_row cutoffs (x ∷ y ∷ w ∷ cutoff ∷ []) =
     else Err BAD_LINE
 point_row cutoffs fields = Err BAD_LINE
 
+-- whether a field is a number in its range
 abbrev pub is_in_range : NumberField → Bool
 is_in_range (Value z) = true
 is_in_range other = false
 
+-- the number of a field that is one in its range
 abbrev pub number_in : NumberField → ℤ
 number_in (Value z) = z
 number_in other = pos 0
 
+-- whether all fields are numbers
 abbrev pub are_numbers : List (List ℕ) → Bool
 are_numbers fields = list_all (λ field. is_number (coordinate_of field)) fields
 
+-- whether all fields are coordinates
 abbrev pub are_coordinates : List (List ℕ) → Bool
 are_coordinates fields = list_all (λ field. is_in_range (coordinate_of field)) fields
 
@@ -108,6 +123,7 @@ polygon_of vs =
     else if is_convex (turned vs) then Ok (turned vs)
     else Err NOT_CONVEX
 
+-- the polygon that the fields after `permit` or `forbid` say
 abbrev pub polygon_row : List (List ℕ) → Result (List Place) ℕ
 polygon_row fields =
     if length fields % 2 == 0

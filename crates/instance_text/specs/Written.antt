@@ -9,7 +9,9 @@ use Rattle.siting_definitions.specs.InstanceText.{version_field, kind_field, poi
 
 -- the header and the kind
 abbrev pub front_text : Instance → List ℕ
-front_text i = line_text (codes "siting" ∷ version_field i ∷ []) ++ line_text (codes "kind" ∷ kind_field i.kind ∷ [])
+front_text i =
+    line_text (codes "siting" ∷ version_field i ∷ [])
+    ++ line_text (codes "kind" ∷ kind_field i.kind ∷ [])
 
 abbrev pub point_text : DemandPt → List ℕ
 point_text d = line_text (point_line d)

@@ -8,7 +8,8 @@ use thiserror::Error;
 pub struct InstanceFault {
     /// Which fault: one of the constants of this crate, 1 to 17.
     pub number: u8,
-    /// The line, from 1; the number of lines plus one where only the end of the text shows the fault.
+    /// The line, from 1; the number of lines plus one where only the end of the text shows the
+    /// fault.
     pub line: u64,
 }
 
@@ -56,7 +57,8 @@ impl From<AllocError> for LineError {
 
 /// The first line that counts isn't `siting 1` or `siting 2`, or there is none.
 pub const BAD_HEADER: u8 = 1;
-/// A line has no word of this format before its fields, or not the number of fields that its word asks for.
+/// A line has no word of this format before its fields, or not the number of fields that its word
+/// asks for.
 pub const BAD_LINE: u8 = 2;
 /// A field that has to be a number isn't one.
 pub const BAD_NUMBER: u8 = 3;

@@ -1,4 +1,5 @@
-//! The text of an instance, `siting 1` and `siting 2`: reading it, with its first fault, and writing it.
+//! The text of an instance, `siting 1` and `siting 2`: reading it, with its first fault, and
+//! writing it.
 #![tactic(auto)]
 
 mod faults;
@@ -17,7 +18,8 @@ pub use faults::{
     TOO_MANY_POLYGONS, TOO_MANY_VERTICES, TWO_KINDS, WEIGHT_SUM, ZERO_WEIGHT,
 };
 pub use laws::{
-    canonical_texts_are_short, text_keeps_limits, text_reads_back, text_says_its_rows, texts_differ,
+    canonical_texts_are_short, faults_have_their_numbers, text_keeps_limits, text_reads_back,
+    text_says_its_rows, texts_differ,
 };
 pub use read::read_instance;
 pub use write::write_instance;

@@ -5,7 +5,9 @@ ghost use Rattle.std.specs.List.{list_all};
 ghost use Rattle.siting_definitions.specs.declared.TheConstants.{COORDINATE_LIMIT, WEIGHT_LIMIT};
 ghost use Rattle.text_lines.specs.Lines.{fields_of};
 ghost use Rattle.text_lines.specs.Numbers.{HasSize};
-ghost use Rattle.instance_text.specs.Rows.{coordinate_of, weight_of, cutoff_of, is_number as tells_number, are_numbers as tells_numbers, IsCutoff};
+ghost use Rattle.instance_text.specs.Rows.{coordinate_of, weight_of};
+ghost use Rattle.instance_text.specs.Rows.{cutoff_of, is_number as tells_number};
+ghost use Rattle.instance_text.specs.Rows.{are_numbers as tells_numbers, IsCutoff};
 
 use siting_definitions::{COORDINATE_LIMIT, CUTOFF_LIMIT, WEIGHT_LIMIT};
 use text_lines::{NumberField, next_field, number_within};

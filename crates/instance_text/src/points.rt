@@ -1,11 +1,14 @@
 //! The point and the kind of a line.
 
-ghost use Rattle.std.specs.Prelude.{◌≡◌, None, Option, ℤ, pos, ◌≢◌, ◌≤◌, ◌≤ℤ◌, unsigned_abs, MatchOption, ⊤};
+ghost use Rattle.std.specs.Prelude.{◌≡◌, None, Option, ℤ, pos, ◌≢◌, ◌≤◌};
+ghost use Rattle.std.specs.Prelude.{◌≤ℤ◌, unsigned_abs, MatchOption, ⊤};
 ghost use Rattle.siting_definitions.specs.Instance.{IsCoordinate, IsDemandPt};
-ghost use Rattle.siting_definitions.specs.declared.TheConstants.{COORDINATE_LIMIT, WEIGHT_LIMIT, CUTOFF_LIMIT};
+ghost use Rattle.siting_definitions.specs.declared.TheConstants.{COORDINATE_LIMIT};
+ghost use Rattle.siting_definitions.specs.declared.TheConstants.{WEIGHT_LIMIT, CUTOFF_LIMIT};
 ghost use Rattle.text_lines.specs.Lines.{fields_of};
 ghost use Rattle.text_lines.specs.Numbers.{HasSize};
-ghost use Rattle.instance_text.specs.Rows.{kind_row, demand_of as point_from, cut_demand_of as cut_point_from, point_row, IsCutoff};
+ghost use Rattle.instance_text.specs.Rows.{kind_row, demand_of as point_from};
+ghost use Rattle.instance_text.specs.Rows.{cut_demand_of as cut_point_from, point_row, IsCutoff};
 
 use crate::faults::{BAD_LINE, BAD_NUMBER, OUT_OF_RANGE, ZERO_WEIGHT};
 use crate::numbers::{coordinate, cutoff, is_number, weight};
@@ -31,7 +34,8 @@ pub(crate) fn read_kind(fields: &[u8]) -> Result<Kind, u8>
     }
 }
 
-/// The point that the fields after `point` say, where `cutoffs` says whether a point may have a cutoff.
+/// The point that the fields after `point` say, where `cutoffs` says whether a point may have a
+/// cutoff.
 pub(crate) fn read_point(cutoffs: bool, fields: &[u8]) -> Result<DemandPt, u8>
     ensures { result ≡ point_row cutoffs (fields_of fields.now) }
 {

@@ -2,7 +2,8 @@
 
 ghost use Rattle.std.specs.Prelude.{◌≡◌, true, false, Err, IfOk, IfNone, IfSome, MatchOption};
 ghost use Rattle.text_lines.specs.Lines.{fields_of};
-ghost use Rattle.instance_text.specs.Rows.{is_place, place_from, are_places, places_of, polygon_of as polygon_from, polygon_row};
+ghost use Rattle.instance_text.specs.Rows.{is_place, place_from, are_places, places_of};
+ghost use Rattle.instance_text.specs.Rows.{polygon_of as polygon_from, polygon_row};
 ghost use Rattle.instance_text.specs.Outcome.{Says};
 
 use crate::faults::{

@@ -12,8 +12,8 @@ use text_lines::next_line;
 
 /// Reads the instance that an instance text says.
 ///
-/// Where the bytes are no instance text it answers the first fault, by its line and, within a line, by the order of the
-/// faults; and `NoMemory` where memory ran out.
+/// Where the bytes are no instance text it answers the first fault, by its line and, within a line,
+/// by the order of the faults; and `NoMemory` where memory ran out.
 #[tactic(auto, unfolding(crate::specs::Reading::reading))]
 pub fn read_instance(alloc: Global, bytes: &[u8]) -> Result<Instance, InstanceError>
     ensures { Gives result (reading bytes.now) }

@@ -11,11 +11,13 @@ use exact_geometry::Place;
 use port_io::{Out, Piece, Sink, WriteFault};
 use site_model::{DemandPt, Instance, Kind};
 
-/// Puts the canonical text of an instance, which reads back as that instance, to an output on which no call failed.
-/// `WriteFault` only where the sink's count of faults rose in this call: the sink then took a front of what was put.
+/// Puts the canonical text of an instance, which reads back as that instance, to an output on which
+/// no call failed. `WriteFault` only where the sink's count of faults rose in this call: the sink
+/// then took a front of what was put.
 pub fn write_instance<K: Sink>(instance: &Instance, out: &mut Out<K>) -> Result<(), WriteFault>
     requires { IsOpen out.old }
-    ensures { PutOn K.room K.taken K.faults out.old out.new (instance_text instance.now) result }
+    ensures { PutOn K.room K.taken K.faults K.is_strict out.old out.new
+        (instance_text instance.now) result }
 {
     write_front(instance, out)?;
     write_points(instance.points(), out)?;
@@ -27,7 +29,8 @@ pub fn write_instance<K: Sink>(instance: &Instance, out: &mut Out<K>) -> Result<
 /// Puts the header and the kind.
 fn write_front<K: Sink>(instance: &Instance, out: &mut Out<K>) -> Result<(), WriteFault>
     requires { IsOpen out.old }
-    ensures { PutOn K.room K.taken K.faults out.old out.new (front_text instance.now) result }
+    ensures { PutOn K.room K.taken K.faults K.is_strict out.old out.new
+        (front_text instance.now) result }
 {
     let version: &[u8] = if instance.has_cutoff() { b"2" } else { b"1" };
     out.put_pieces(&[
@@ -52,7 +55,7 @@ fn kind_word(kind: Kind) -> &'static [u8]
 /// Puts the lines of points.
 fn write_points<K: Sink>(points: &[DemandPt], out: &mut Out<K>) -> Result<(), WriteFault>
     requires { IsOpen out.old }
-    ensures { PutOn K.room K.taken K.faults out.old out.new
+    ensures { PutOn K.room K.taken K.faults K.is_strict out.old out.new
         (flat_map point_text points.now) result }
 {
     for point in points {
@@ -64,7 +67,8 @@ fn write_points<K: Sink>(points: &[DemandPt], out: &mut Out<K>) -> Result<(), Wr
 /// Puts the line of a point.
 fn write_point<K: Sink>(point: &DemandPt, out: &mut Out<K>) -> Result<(), WriteFault>
     requires { IsOpen out.old }
-    ensures { PutOn K.room K.taken K.faults out.old out.new (point_text point.now) result }
+    ensures { PutOn K.room K.taken K.faults K.is_strict out.old out.new
+        (point_text point.now) result }
 {
     let (x, y) = (i64::from(point.x), i64::from(point.y));
     match point.cutoff {
@@ -98,7 +102,7 @@ fn write_polygons<K: Sink>(
     out: &mut Out<K>,
 ) -> Result<(), WriteFault>
     requires { IsOpen out.old }
-    ensures { PutOn K.room K.taken K.faults out.old out.new
+    ensures { PutOn K.room K.taken K.faults K.is_strict out.old out.new
         (flat_map (polygon_text word.now) polygons.now) result }
 {
     for polygon in polygons {
@@ -114,7 +118,7 @@ fn write_polygon<K: Sink>(
     out: &mut Out<K>,
 ) -> Result<(), WriteFault>
     requires { IsOpen out.old }
-    ensures { PutOn K.room K.taken K.faults out.old out.new
+    ensures { PutOn K.room K.taken K.faults K.is_strict out.old out.new
         (polygon_text word.now polygon.now) result }
 {
     out.put(word)?;
@@ -125,7 +129,7 @@ fn write_polygon<K: Sink>(
 /// Puts the vertices of a polygon, each coordinate after a space.
 fn write_vertices<K: Sink>(polygon: &Polygon, out: &mut Out<K>) -> Result<(), WriteFault>
     requires { IsOpen out.old }
-    ensures { PutOn K.room K.taken K.faults out.old out.new
+    ensures { PutOn K.room K.taken K.faults K.is_strict out.old out.new
         (flat_map vertex_text polygon.now) result }
 {
     for i in 0..polygon.len() {
@@ -137,7 +141,8 @@ fn write_vertices<K: Sink>(polygon: &Polygon, out: &mut Out<K>) -> Result<(), Wr
 /// Puts a vertex, each coordinate after a space.
 fn write_vertex<K: Sink>(vertex: Place, out: &mut Out<K>) -> Result<(), WriteFault>
     requires { IsOpen out.old }
-    ensures { PutOn K.room K.taken K.faults out.old out.new (vertex_text vertex) result }
+    ensures { PutOn K.room K.taken K.faults K.is_strict out.old out.new
+        (vertex_text vertex) result }
 {
     out.put_pieces(&[
         Piece::Text(b" "),

@@ -1,6 +1,6 @@
 -- What is still to come after a front of a line, and what calls know that read a line piece by piece.
 use Rattle.std.proofs.Common.{◌≡◌, ℕ, suc, zero, ◌+◌, ◌-◌, ◌≤◌, ◌<◌, eqb, Bool, true, false, cond, not, List, [], ◌∷◌, ◌++◌, length, take, drop, refl, sym, ap, subst, ◌∙◌, ◌⊎◌, inl, inr, arith, append_assoc, append-nil, Option, Some, None, IfSome, Result, Ok, Err}
-use Rattle.std.specs.Prelude.{◌==◌, ◌||◌, nat_lt, IsErrOf, IfOk, OnOk, OnErr, ⊤}
+use Rattle.std.specs.Prelude.{◌==◌, ◌||◌, nat_lt, IfOk, OnOk, OnErr, IsTrue, ⊤}
 use Rattle.std.specs.Result.{IsErrAnd}
 use Rattle.std.specs.List.{list_all}
 use Rattle.std.specs.Io.KnownBytes.{Consumes, Keeps}
@@ -14,14 +14,16 @@ use Rattle.line_stream.specs.declared.lines.LineError.TheVariants.{Missing, Surp
 use Rattle.line_stream.specs.Feeds.{is_no_feed}
 use Rattle.line_stream.specs.Input.{Input, input_of, input_from, onto_lines, with_more}
 use Rattle.line_stream.specs.Coming.{Coming, next_line, input_end}
-use Rattle.line_stream.specs.Stream.{LinesState, Stream, coming_in, Settles, IsNeeded, IsLastPiece, HasEnded}
-use Rattle.line_stream.specs.LineReading.{Blames, StopsAs, after_front, Filled, FrontRead, InLine, IsLine, IsStopped, PieceRead, RestRead, IsKept, LineRead, surplus_of, IsEnd, EndRead}
+use Rattle.line_stream.specs.Stream.{LinesState, Stream, IsCalm, coming_in, Settles, IsNeeded, HasEnded}
+use Rattle.line_stream.specs.LineReading.{Blames, StopsAs, after_front, Filled, FrontRead, InLine, IsLine, IsStopped, PieceRead, RestRead, LineRead, surplus_of, IsEnd}
 
 -- ---- a front of a line
+-- nothing before a line leaves it as it is
 pub after_front-nil : (x : Result (List ℕ × Coming) LineError) → after_front [] x ≡ x
 after_front-nil (Ok read) = refl
 after_front-nil (Err error) = refl
 
+-- fronts one after another
 pub after_front-append : (a b : List ℕ) (x : Result (List ℕ × Coming) LineError) → after_front a (after_front b x) ≡ after_front (a ++ b) x
 after_front-append a b (Ok read) = ap (λ l. Ok (l, read.1)) (sym (append_assoc a b read.0))
 after_front-append a b (Err error) = refl
@@ -30,6 +32,7 @@ after_front-append a b (Err error) = refl
 abbrev line_in : Bool → ℕ → List ℕ → ℕ → Result (List ℕ × Coming) LineError
 line_in more limit bytes n = next_line (record { input = with_more more (input_of limit bytes); line = n })
 
+-- a byte that is no line feed goes to the front of the next line
 onto_next : (b : ℕ) (lines : List (List ℕ)) (partial : List ℕ) (goes_on : Bool) (n : ℕ)
     → (let i : Input = record { lines = lines; partial = partial; goes_on = goes_on } in
     next_line (record { input = onto_lines b lines i; line = n }) ≡ after_front (b ∷ []) (next_line (record { input = i; line = n })))
@@ -55,6 +58,7 @@ from_more more b i = by_test (eqb b 10)
     by_test true = refl
     by_test false = onto_more more b i.lines i
 
+-- the next line after a front of it
 input_front : (more : Bool) (front rest : List ℕ) (limit n : ℕ) → list_all is_no_feed front ≡ true → length front ≤ limit
     → line_in more limit (front ++ rest) n ≡ after_front front (line_in more (limit - length front) rest n)
 unfolding input_of
@@ -71,6 +75,7 @@ input_front more (b ∷ bs) rest (suc limit) n h le =
     ∙ (after_front-append (b ∷ []) bs (line_in more (limit - length bs) rest n)
     ∙ ap (λ k. after_front (b ∷ bs) (line_in more k rest n)) (sym same))))
 
+-- the next line where a line feed comes
 input_feed : (more : Bool) (rest : List ℕ) (limit n : ℕ) → 0 < limit
     → line_in more limit (10 ∷ rest) n ≡ Ok ([], record { input = with_more more (input_of (limit - 1) rest); line = n + 1 })
 unfolding input_of
@@ -137,6 +142,7 @@ front_read limit n before after feed keeps clean rest most first within some few
         ∙ ap (λ k. after_front (take n before.ahead) (line_in more (limit - after.read) (after.ahead ++ bytes) k)) same)
 
 -- ---- what a source gave
+-- of a source from which nothing was read, nothing was consumed
 pub Consumes-none : (left : Option (List ℕ)) → Consumes left left []
 Consumes-none None = tt
 Consumes-none (Some bytes) = refl
@@ -147,14 +153,27 @@ ended-then None b c got gave ends = tt
 ended-then (Some a) None c got gave ends = absurd gave
 ended-then (Some a) (Some b) c got gave ends = ends
 
+-- a count that rose later rose in all
 pub rose-then : (a b c : ℕ) → a ≤ b → Rose b c → Rose a c
 rose-then a b c le rose other = let lt : b < c = rose other in omega arith
 
-blames-then : {T U : Type 0} (a b c : ℕ) (error : LineError) → a ≤ b → Blames {T = T} b c (Err error) → Blames {T = U} a c (Err error)
-blames-then a b c error le blames = record {
-  later = omega (arith, blames.later);
-  failed = λ is. rose-then a b c le (blames.failed (ap Err (let same : error ≡ SourceFailed = cc in same)));
+-- where nothing was read, no call failed
+pub calm-none : (a : Stream) → IsCalm a a
+calm-none a = record { later = omega arith; same = refl; quiet = λ strict. refl }
+
+-- no call failed in two calls one after another
+pub calm-then : (a b c : Stream) → IsCalm a b → IsCalm b c → IsCalm a c
+calm-then a b c h k = record {
+  later = omega (arith, h.later, k.later);
+  same = k.same ∙ h.same;
+  quiet = λ strict. k.quiet (subst IsTrue (sym h.same) strict) ∙ h.quiet strict;
 }
+
+blames-then : (a b c : Stream) (error : LineError) → IsCalm a b → Blames b c error → Blames a c error
+blames-then a b c (Missing line) h blames = calm-then a b c h blames
+blames-then a b c (Surplus line) h blames = calm-then a b c h blames
+blames-then a b c TooLong h blames = calm-then a b c h blames
+blames-then a b c SourceFailed h blames = (omega (arith, h.later, blames.0), rose-then a.faults b.faults c.faults h.later blames.1)
 
 -- no more was read, or a piece after what was read
 pub needed-kept : {T E : Type 0} (limit : ℕ) (wanted : Coming → Result T E) (error : E) (s : LinesState) (got more : List ℕ) → more ≡ [] → IsNeeded limit wanted error s got → IsNeeded limit wanted error s (got ++ more)
@@ -168,17 +187,18 @@ needed-last limit wanted error s got front piece more parts few undecided =
 
 -- ---- a line that is read piece by piece
 module _ (limit : ℕ) where
-  nothing_read : (a b : Stream) → b.lines ≡ record a.lines { kept = [] } → b.left ≡ a.left → b.faults ≡ a.faults → InLine limit a b []
-  nothing_read a b lines left faults = record {
+  nothing_read : (a b : Stream) → b.lines ≡ record a.lines { kept = [] } → b.left ≡ a.left → b.faults ≡ a.faults → b.is_strict ≡ a.is_strict → InLine limit a b []
+  nothing_read a b lines left faults strict = record {
     got = [];
     consumes = rw left (Consumes-none a.left);
     needed = inl refl;
     reads = λ more rest. sym (after_front-nil (next_line (coming_in more limit a.lines rest))) ∙ ap (λ (s : LinesState). after_front [] (next_line (coming_in more limit s rest))) (sym lines);
-    later = rw faults (omega arith);
+    calm = record { later = rw faults (omega arith); same = strict; quiet = λ _. faults };
   }
 
-  pub in_line-start : (a b : Stream) → b.lines ≡ record a.lines { kept = [] } → b.left ≡ a.left → b.faults ≡ a.faults → InLine limit a b b.lines.kept
-  in_line-start a b lines left faults = subst (InLine limit a b) (sym (ap (λ (s : LinesState). s.kept) lines)) (nothing_read a b lines left faults)
+  -- nothing of the line was read yet
+  pub in_line-start : (a b : Stream) → b.lines ≡ record a.lines { kept = [] } → b.left ≡ a.left → b.faults ≡ a.faults → b.is_strict ≡ a.is_strict → InLine limit a b b.lines.kept
+  in_line-start a b lines left faults strict = subst (InLine limit a b) (sym (ap (λ (s : LinesState). s.kept) lines)) (nothing_read a b lines left faults strict)
 
   -- what a piece leaves open, what was wanted before it leaves open
   in_line-open : (a b : Stream) (x got : List ℕ) (h : InLine limit a b x) → IsNeeded limit next_line TooLong b.lines got → IsNeeded limit next_line TooLong a.lines (h.got ++ got)
@@ -186,6 +206,7 @@ module _ (limit : ℕ) where
   in_line-open a b x got h (inr last) =
       needed-last limit next_line TooLong a.lines h.got last.front last.piece got last.parts last.few (h.reads true last.front ∙ ap (after_front x) last.undecided)
 
+  -- two fronts of a line, one after the other
   pub in_line-then : (a b c : Stream) (x y : List ℕ) → InLine limit a b x → InLine limit b c y → InLine limit a c (x ++ y)
   in_line-then a b c x y h k = record {
     got = h.got ++ k.got;
@@ -193,9 +214,10 @@ module _ (limit : ℕ) where
     needed = in_line-open a b x k.got h k.needed;
     reads = λ more rest. ap (λ l. next_line (coming_in more limit a.lines l)) (append_assoc h.got k.got rest)
         ∙ (h.reads more (k.got ++ rest) ∙ (ap (after_front x) (k.reads more rest) ∙ after_front-append x y (next_line (coming_in more limit c.lines rest))));
-    later = omega (arith, h.later, k.later);
+    calm = calm-then a b c h.calm k.calm;
   }
 
+  -- a front of a line and the rest of it
   pub in_line-ends : (a b c : Stream) (x y : List ℕ) → InLine limit a b x → IsLine limit b c y → IsLine limit a c (x ++ y)
   in_line-ends a b c x y h k = record {
     got = h.got ++ k.got;
@@ -203,7 +225,7 @@ module _ (limit : ℕ) where
     needed = in_line-open a b x k.got h k.needed;
     reads = λ more rest. ap (λ l. next_line (coming_in more limit a.lines l)) (append_assoc h.got k.got rest)
         ∙ (h.reads more (k.got ++ rest) ∙ ap (after_front x) (k.reads more rest));
-    later = omega (arith, h.later, k.later);
+    calm = calm-then a b c h.calm k.calm;
   }
 
   in_line-settles : (a b : Stream) (x got : List ℕ) (error : LineError) (h : InLine limit a b x) → Settles limit next_line b.lines got (Err error) → Settles limit next_line a.lines (h.got ++ got) (Err error)
@@ -217,24 +239,25 @@ module _ (limit : ℕ) where
   in_line-stops a b c x got TooLong h stops = in_line-settles a b x got TooLong h stops
   in_line-stops a b c x got SourceFailed h stops = h.reads true got ∙ ap (after_front x) stops
 
+  -- a front of a line was read, and then no line
   pub in_line-fails : (a b c : Stream) (x : List ℕ) (error : LineError) → InLine limit a b x → IsStopped limit next_line b c error → IsStopped limit next_line a c error
   in_line-fails a b c x error h k = record {
     got = h.got ++ k.got;
     consumes = Consumes-then a.left b.left c.left h.got k.got h.consumes k.consumes;
     needed = in_line-open a b x k.got h k.needed;
     stops = in_line-stops a b c x k.got error h k.stops;
-    blames = blames-then a.faults b.faults c.faults error h.later k.blames;
+    blames = blames-then a b c error h.calm k.blames;
   }
 
   -- ---- what was read ahead
+  -- some bytes were held already
   pub filled_held : (a : Stream) → 0 < length a.lines.ahead → Filled a a (Ok true)
   filled_held a some = record {
     got = [];
     consumes = Consumes-none a.left;
     lines = ap (λ l. record a.lines { ahead = l }) (sym (append-nil a.lines.ahead));
     few = inl refl;
-    fills = some;
-    cause = record { later = omega arith; failed = tt };
+    fills = (some, calm-none a);
   }
 
   no_bytes : (bytes : List ℕ) → false ≡ nat_lt 0 (length bytes) → bytes ≡ []
@@ -251,34 +274,33 @@ module _ (limit : ℕ) where
   consumes_kept (Some a) None keeps = absurd keeps
   consumes_kept (Some a) (Some b) keeps = sym keeps
 
+  -- bytes were read ahead, or the source ended or failed
   pub filled_now : (a b : Stream) (now : List ℕ) (result : Result Bool Failed) → a.lines.ahead ≡ [] → b.lines ≡ record a.lines { ahead = now }
       → OnOk result (Consumes a.left b.left now) → IfOk result (λ some. some ≡ nat_lt 0 (length now)) → IfOk result (λ some. some ≡ false → IfSome a.left (λ left. left ≡ []))
-      → length now ≤ 4096 → OnErr result (Keeps a.left b.left) → OnErr result (now ≡ []) → HasCause a.faults b.faults result → Filled a b result
-  filled_now a b now (Ok true) empty lines gave some end few keeps none cause = record {
+      → length now ≤ 4096 → OnErr result (Keeps a.left b.left) → OnErr result (now ≡ []) → HasCause a.faults b.faults result → b.is_strict ≡ a.is_strict → (IsTrue a.is_strict → OnOk result (b.faults ≡ a.faults)) → Filled a b result
+  filled_now a b now (Ok true) empty lines gave some end few keeps none cause same quiet = record {
     got = now;
     consumes = gave;
     lines = lines ∙ ap (λ l. record a.lines { ahead = l ++ now }) (sym empty);
     few = inr (empty, few);
-    fills = rw lines (let is : true ≡ nat_lt 0 (length now) = some in grind arith);
-    cause = cause;
+    fills = (rw lines (let is : true ≡ nat_lt 0 (length now) = some in grind arith), record { later = cause.later; same = same; quiet = quiet });
   }
-  filled_now a b now (Ok false) empty lines gave some end few keeps none cause = record {
+  filled_now a b now (Ok false) empty lines gave some end few keeps none cause same quiet = record {
     got = now;
     consumes = gave;
     lines = lines ∙ ap (λ l. record a.lines { ahead = l ++ now }) (sym empty);
     few = inl (no_bytes now some);
-    fills = (empty, no_bytes now some, ends a.left b.left now (no_bytes now some) gave (end refl));
-    cause = cause;
+    fills = (empty, no_bytes now some, ends a.left b.left now (no_bytes now some) gave (end refl), record { later = cause.later; same = same; quiet = quiet });
   }
-  filled_now a b now (Err failed) empty lines gave some end few keeps none cause = record {
+  filled_now a b now (Err failed) empty lines gave some end few keeps none cause same quiet = record {
     got = [];
     consumes = consumes_kept a.left b.left keeps;
     lines = lines ∙ ap (λ l. record a.lines { ahead = l }) (none ∙ sym (append-nil []) ∙ ap (λ l. l ++ []) (sym empty));
     few = inl refl;
-    fills = (empty, refl);
-    cause = cause;
+    fills = (empty, refl, cause.later, cause.failed);
   }
 
+  -- what is still to come is the same, wherever it lies
   coming_filled : (b c : Stream) (result : Result Bool Failed) (f : Filled b c result) (more : Bool) (rest : List ℕ) → coming_in more limit b.lines (f.got ++ rest) ≡ coming_in more limit c.lines rest
   coming_filled b c result f more rest =
       ap (λ l. record { input = with_more more (input_of (limit - b.lines.read) l); line = b.lines.line }) (sym (append_assoc b.lines.ahead f.got rest))
@@ -310,18 +332,15 @@ module _ (limit : ℕ) where
       by_few (inr few) = inr (record { front = []; piece = f.got; parts = refl; few = few.1; undecided = open_end true b.lines [] few.0 refl })
 
   -- some bytes are held now
-  pub in_line-filled : (a b c : Stream) (x : List ℕ) (result : Result Bool Failed) → InLine limit a b x → Filled b c result → InLine limit a c x
-  in_line-filled a b c x result h f = record {
+  pub in_line-filled : (a b c : Stream) (x : List ℕ) → InLine limit a b x → Filled b c (Ok true) → InLine limit a c x
+  in_line-filled a b c x h f = record {
     got = h.got ++ f.got;
     consumes = Consumes-then a.left b.left c.left h.got f.got h.consumes f.consumes;
-    needed = in_line-open a b x f.got h (filled_line b c result f);
+    needed = in_line-open a b x f.got h (filled_line b c (Ok true) f);
     reads = λ more rest. ap (λ l. next_line (coming_in more limit a.lines l)) (append_assoc h.got f.got rest)
-        ∙ (h.reads more (f.got ++ rest) ∙ ap (λ (r : Coming). after_front x (next_line r)) (coming_filled b c result f more rest));
-    later = omega (arith, h.later, f.cause.later);
+        ∙ (h.reads more (f.got ++ rest) ∙ ap (λ (r : Coming). after_front x (next_line r)) (coming_filled b c (Ok true) f more rest));
+    calm = calm-then a b c h.calm f.fills.1;
   }
-
-  other_blame : {T : Type 0} (before after : ℕ) (error : LineError) → before ≤ after → (error ≡ SourceFailed → ⊥) → Blames {T = T} before after (Err error)
-  other_blame before after error le other = record { later = le; failed = λ is. absurd (other (let same : error ≡ SourceFailed = cc in same)) }
 
   -- the input ends within the line
   pub in_line-missing : (a b c : Stream) (x : List ℕ) (line : ℕ) → InLine limit a b x → Filled b c (Ok false) → line ≡ c.lines.line + 1 → IsStopped limit next_line a c (Missing line)
@@ -332,7 +351,7 @@ module _ (limit : ℕ) where
         consumes = f.consumes;
         needed = filled_line b c (Ok false) f;
         stops = (open_line false b.lines f.got f.fills.0 f.fills.1 ∙ ap (λ n. Err (Missing n)) (sym same), f.fills.2);
-        blames = other_blame b.faults c.faults (Missing line) f.cause.later (λ e. cc);
+        blames = f.fills.3;
       })
 
   -- the source failed within the line
@@ -343,7 +362,7 @@ module _ (limit : ℕ) where
         consumes = f.consumes;
         needed = filled_line b c (Err failed) f;
         stops = open_line true b.lines f.got f.fills.0 f.fills.1;
-        blames = record { later = f.cause.later; failed = λ _. f.cause.failed };
+        blames = (f.fills.2, f.fills.3);
       })
 
   more_true : (more : Bool) → (more || true) ≡ true
@@ -369,43 +388,43 @@ module _ (limit : ℕ) where
         consumes = Consumes-none b.left;
         needed = inl refl;
         stops = past_limit b.lines some none;
-        blames = other_blame b.faults b.faults TooLong (omega arith) (λ e. cc);
+        blames = calm-none b;
       })
 
   -- a front of the line was kept, of what is held
   pub in_line-front : (a b : Stream) (after : LinesState) → InLine limit a b b.lines.kept → FrontRead limit b.lines after false → InLine limit a (record b { lines = after }) after.kept
   in_line-front a b after h f =
       subst (InLine limit a (record b { lines = after })) (sym f.keeps)
-      (in_line-then a b (record b { lines = after }) b.lines.kept f.front h (record { got = []; consumes = Consumes-none b.left; needed = inl refl; reads = f.reads; later = omega arith }))
+      (in_line-then a b (record b { lines = after }) b.lines.kept f.front h (record { got = []; consumes = Consumes-none b.left; needed = inl refl; reads = f.reads; calm = record { later = omega arith; same = refl; quiet = λ strict. refl } }))
 
   pub in_line-feed : (a b : Stream) (after : LinesState) → InLine limit a b b.lines.kept → FrontRead limit b.lines after true → IsLine limit a (record b { lines = after }) after.kept
   in_line-feed a b after h f =
       subst (IsLine limit a (record b { lines = after })) (sym f.keeps)
-      (in_line-ends a b (record b { lines = after }) b.lines.kept f.front h (record { got = []; consumes = Consumes-none b.left; needed = inl refl; reads = f.reads; later = omega arith }))
+      (in_line-ends a b (record b { lines = after }) b.lines.kept f.front h (record { got = []; consumes = Consumes-none b.left; needed = inl refl; reads = f.reads; calm = record { later = omega arith; same = refl; quiet = λ strict. refl } }))
 
   -- what is kept stays where nothing but bytes ahead are read
-  pub in_line-held : (a b c : Stream) (result : Result Bool Failed) → InLine limit a b b.lines.kept → Filled b c result → InLine limit a c c.lines.kept
-  in_line-held a b c result h f =
+  pub in_line-held : (a b c : Stream) → InLine limit a b b.lines.kept → Filled b c (Ok true) → InLine limit a c c.lines.kept
+  in_line-held a b c h f =
       let same : c.lines.kept ≡ b.lines.kept = ap (λ (s : LinesState). s.kept) f.lines in
-      subst (InLine limit a c) (sym same) (in_line-filled a b c b.lines.kept result h f)
+      subst (InLine limit a c) (sym same) (in_line-filled a b c b.lines.kept h f)
 
   -- ---- the rest of a line
+  -- the rest of a line failed
   pub rest_fails : (a b c : Stream) (front : List ℕ) (error : LineError) (result : Result ⊤ LineError) → InLine limit a b front → PieceRead limit b c (Err error) → IsErrAnd result (λ e. e ≡ error) → RestRead limit a c result
   rest_fails a b c front error (Ok done) h piece is = absurd is
   rest_fails a b c front error (Err e) h piece is = rw is (in_line-fails a b c front error h piece)
 
   line_forgets : (a c : Stream) (line : List ℕ) → IsLine limit a c line → IsLine limit a (record c { lines = record c.lines { kept = [] } }) line
-  line_forgets a c line h = record { got = h.got; consumes = h.consumes; needed = h.needed; reads = h.reads; later = h.later }
+  line_forgets a c line h = record { got = h.got; consumes = h.consumes; needed = h.needed; reads = h.reads; calm = record { later = h.calm.later; same = h.calm.same; quiet = h.calm.quiet } }
 
+  -- the rest of a line was read, and is forgotten
   pub rest_ends : (a b c : Stream) (now : LinesState) (front : List ℕ) → InLine limit a b front → PieceRead limit b c (Ok true) → now ≡ record c.lines { kept = [] }
       → (line : List ℕ) × IsLine limit a (record c { lines = now }) line × (now.kept ≡ [])
   rest_ends a b c now front h piece is =
       (front ++ c.lines.kept, subst (λ (s : LinesState). IsLine limit a (record c { lines = s }) (front ++ c.lines.kept)) (sym is) (line_forgets a c _ (in_line-ends a b c front c.lines.kept h piece)), ap (λ (s : LinesState). s.kept) is)
 
   -- ---- a line
-  pub short_line : (a b : Stream) → PieceRead limit a b (Ok true) → LineRead limit a b (Ok tt)
-  short_line a b piece = (b.lines.kept, piece, inl refl)
-
+  -- its front was kept, and the rest of it read
   pub long_line : (a b c : Stream) (result : Result ⊤ LineError) → PieceRead limit a b (Ok false) → length b.lines.kept ≡ 4096 → RestRead limit b c result → LineRead limit a c result
   long_line a b c (Ok done) piece long rest =
       let all = length-append b.lines.kept rest.0 in
@@ -418,7 +437,7 @@ module _ (limit : ℕ) where
     ends = open_end false a.lines [] f.fills.0 refl;
     consumes = subst (Consumes a.left b.left) f.fills.1 f.consumes;
     left = f.fills.2;
-    later = f.cause.later;
+    calm = f.fills.3;
   }
 
   end_in : (more : Bool) (left line b : ℕ) (bytes : List ℕ) → input_end (record { input = with_more more (input_of left (b ∷ bytes)); line = line }) ≡ Err (cond (left == 0) TooLong (Surplus (line + 1)))
@@ -439,9 +458,9 @@ module _ (limit : ℕ) where
   surplus_stops a b got true line settles = settles
   surplus_stops a b got false line settles = settles
 
-  not_blamed : (t : Bool) (line : ℕ) → cond t TooLong (Surplus line) ≡ SourceFailed → ⊥
-  not_blamed true line e = cc
-  not_blamed false line e = cc
+  surplus_blames : (a b : Stream) (t : Bool) (line : ℕ) → IsCalm a b → Blames a b (cond t TooLong (Surplus line))
+  surplus_blames a b true line calm = calm
+  surplus_blames a b false line calm = calm
 
   -- a byte comes after the end
   pub end_surplus : (a b : Stream) (error : LineError) → Filled a b (Ok true) → error ≡ surplus_of limit b.lines → IsStopped limit input_end a b error
@@ -449,8 +468,8 @@ module _ (limit : ℕ) where
     got = f.got;
     consumes = f.consumes;
     needed = filled_end a b (Ok true) f;
-    stops = surplus_stops a b f.got (limit - b.lines.read == 0) (b.lines.line + 1) (λ more rest. ap input_end (coming_filled a b (Ok true) f more rest) ∙ by_ahead more rest b.lines.ahead f.fills);
-    blames = other_blame a.faults b.faults _ f.cause.later (not_blamed (limit - b.lines.read == 0) (b.lines.line + 1));
+    stops = surplus_stops a b f.got (limit - b.lines.read == 0) (b.lines.line + 1) (λ more rest. ap input_end (coming_filled a b (Ok true) f more rest) ∙ by_ahead more rest b.lines.ahead f.fills.0);
+    blames = surplus_blames a b (limit - b.lines.read == 0) (b.lines.line + 1) f.fills.1;
   })
     where
       by_ahead : (more : Bool) (rest ahead : List ℕ) → 0 < length ahead
@@ -465,9 +484,10 @@ module _ (limit : ℕ) where
     consumes = f.consumes;
     needed = filled_end a b (Err failed) f;
     stops = open_end true a.lines f.got f.fills.0 f.fills.1;
-    blames = record { later = f.cause.later; failed = λ _. f.cause.failed };
+    blames = (f.fills.2, f.fills.3);
   }
 
+-- a list of no length is empty
 pub no_length : (bytes : List ℕ) → length bytes ≡ 0 → bytes ≡ []
 no_length [] e = refl
 no_length (b ∷ bytes) e = let no : ⊥ = omega arith in absurd no

@@ -1,38 +1,48 @@
 -- What the calls of a `Lines` read.
-use Rattle.std.specs.Prelude.{◌≡◌, ℕ, ◌+◌, ◌-◌, ◌<◌, ◌≤◌, ◌==◌, ◌⊎◌, Bool, true, false, if◌then◌else◌, List, [], ◌∷◌, ◌++◌, length, Option, Result, Ok, Err, IsErrOf, ⊤}
+use Rattle.std.specs.Prelude.{◌≡◌, ℕ, ◌+◌, ◌-◌, ◌<◌, ◌≤◌, ◌==◌, ◌⊎◌, Bool, true, false, if◌then◌else◌, List, [], ◌++◌, length, Result, Ok, Err, ⊤}
 use Rattle.std.specs.Io.KnownBytes.{Consumes}
-use Rattle.port_io.specs.Faults.{Rose, HasCause}
+use Rattle.port_io.specs.Faults.{Rose}
 use Rattle.port_io.specs.declared.ports.Failed.{Failed}
 use Rattle.line_stream.specs.declared.lines.LineError.{LineError}
 use Rattle.line_stream.specs.declared.lines.LineError.TheVariants.{Missing, Surplus, TooLong, Failed as SourceFailed}
 use Rattle.line_stream.specs.Coming.{Coming, next_line, input_end}
-use Rattle.line_stream.specs.Stream.{LinesState, Stream, coming_in, Settles, IsNeeded, HasEnded}
+use Rattle.line_stream.specs.Stream.{LinesState, Stream, IsCalm, coming_in, Settles, IsNeeded, HasEnded}
 
--- the count of faults of a source never falls, and a call answers that the source failed only
--- where the count rose in it
-pub record Blames {T : Type 0} (before after : ℕ) (result : Result T LineError) : Type 0 where
-  pub later : before ≤ after
-  pub failed : IsErrOf result SourceFailed → Rose before after
+-- a call answers that the source failed only where the count of faults rose in it, and that it
+-- didn't only where no call of the source failed
+abbrev pub Blames : Stream → Stream → LineError → Type 0
+Blames before after (Missing line) = IsCalm before after
+Blames before after (Surplus line) = IsCalm before after
+Blames before after TooLong = IsCalm before after
+Blames before after SourceFailed = (before.faults ≤ after.faults) × Rose before.faults after.faults
 
 -- What is known at an error of what was wanted: it is what was to be found, whatever comes after
 -- the bytes read; or the input ended after them; or the source failed, while it was still open.
-abbrev pub StopsAs : {T : Type 0} → ℕ → (Coming → Result T LineError) → Stream → Stream → List ℕ → LineError → Type 0
+abbrev pub StopsAs : {T : Type 0} → ℕ → (Coming → Result T LineError) → Stream → Stream → List ℕ
+    → LineError → Type 0
 StopsAs limit wanted before after got (Missing line) =
-    (wanted (coming_in false limit before.lines got) ≡ Err (Missing line)) × HasEnded before.left after.left
-StopsAs limit wanted before after got (Surplus line) = Settles limit wanted before.lines got (Err (Surplus line))
+    (wanted (coming_in false limit before.lines got) ≡ Err (Missing line))
+    × HasEnded before.left after.left
+StopsAs limit wanted before after got (Surplus line) =
+    Settles limit wanted before.lines got (Err (Surplus line))
 StopsAs limit wanted before after got TooLong = Settles limit wanted before.lines got (Err TooLong)
-StopsAs limit wanted before after got SourceFailed = wanted (coming_in true limit before.lines got) ≡ Err TooLong
+StopsAs limit wanted before after got SourceFailed =
+    wanted (coming_in true limit before.lines got) ≡ Err TooLong
 
 -- these bytes before the line that is read, where one is
-abbrev pub after_front : List ℕ → Result (List ℕ × Coming) LineError → Result (List ℕ × Coming) LineError
+abbrev pub after_front : List ℕ → Result (List ℕ × Coming) LineError
+    → Result (List ℕ × Coming) LineError
 after_front front (Ok read) = Ok (front ++ read.0, read.1)
 after_front front (Err error) = Err error
 
 -- where nothing was held, a piece of the source is held now; else nothing was read
 abbrev pub FilledAs : Stream → Stream → List ℕ → Result Bool Failed → Type 0
-FilledAs before after got (Ok true) = 0 < length after.lines.ahead
-FilledAs before after got (Ok false) = (before.lines.ahead ≡ []) × (got ≡ []) × HasEnded before.left after.left
-FilledAs before after got (Err failed) = (before.lines.ahead ≡ []) × (got ≡ [])
+FilledAs before after got (Ok true) = (0 < length after.lines.ahead) × IsCalm before after
+FilledAs before after got (Ok false) =
+    (before.lines.ahead ≡ []) × (got ≡ []) × HasEnded before.left after.left × IsCalm before after
+FilledAs before after got (Err failed) =
+    (before.lines.ahead ≡ []) × (got ≡ []) × (before.faults ≤ after.faults)
+    × Rose before.faults after.faults
 
 pub record Filled (before after : Stream) (result : Result Bool Failed) : Type 0 where
   pub got : List ℕ
@@ -40,15 +50,16 @@ pub record Filled (before after : Stream) (result : Result Bool Failed) : Type 0
   pub lines : after.lines ≡ record before.lines { ahead = before.lines.ahead ++ got }
   pub few : (got ≡ []) ⊎ ((before.lines.ahead ≡ []) × (length got ≤ 4096))
   pub fills : FilledAs before after got result
-  pub cause : HasCause before.faults after.faults result
 
 -- a front of the line that comes was kept, and its line feed was read or not
 pub record FrontRead (limit : ℕ) (before after : LinesState) (feed : Bool) : Type 0 where
   pub front : List ℕ
   pub keeps : after.kept ≡ before.kept ++ front
   pub reads : (more : Bool) (rest : List ℕ) → next_line (coming_in more limit before rest)
-      ≡ (if feed then Ok (front, coming_in more limit after rest) else after_front front (next_line (coming_in more limit after rest)))
-  pub some : feed ≡ false → 0 < length before.ahead → before.read < limit → length before.kept < 4096 → 0 < length front
+      ≡ (if feed then Ok (front, coming_in more limit after rest)
+      else after_front front (next_line (coming_in more limit after rest)))
+  pub some : feed ≡ false → 0 < length before.ahead → before.read < limit
+      → length before.kept < 4096 → 0 < length front
   pub few : length after.kept ≤ 4096
   pub count : before.read + (length front + (if feed then 1 else 0)) ≡ after.read
   pub within : after.read ≤ limit
@@ -58,26 +69,32 @@ pub record InLine (limit : ℕ) (before after : Stream) (front : List ℕ) : Typ
   pub got : List ℕ
   pub consumes : Consumes before.left after.left got
   pub needed : IsNeeded limit next_line TooLong before.lines got
-  pub reads : (more : Bool) (rest : List ℕ) → next_line (coming_in more limit before.lines (got ++ rest)) ≡ after_front front (next_line (coming_in more limit after.lines rest))
-  pub later : before.faults ≤ after.faults
+  pub reads : (more : Bool) (rest : List ℕ)
+      → next_line (coming_in more limit before.lines (got ++ rest))
+      ≡ after_front front (next_line (coming_in more limit after.lines rest))
+  pub calm : IsCalm before after
 
 -- this line was read
 pub record IsLine (limit : ℕ) (before after : Stream) (line : List ℕ) : Type 0 where
   pub got : List ℕ
   pub consumes : Consumes before.left after.left got
   pub needed : IsNeeded limit next_line TooLong before.lines got
-  pub reads : (more : Bool) (rest : List ℕ) → next_line (coming_in more limit before.lines (got ++ rest)) ≡ Ok (line, coming_in more limit after.lines rest)
-  pub later : before.faults ≤ after.faults
+  pub reads : (more : Bool) (rest : List ℕ)
+      → next_line (coming_in more limit before.lines (got ++ rest))
+      ≡ Ok (line, coming_in more limit after.lines rest)
+  pub calm : IsCalm before after
 
 -- no line was read, or the input was to end
-pub record IsStopped {T : Type 0} (limit : ℕ) (wanted : Coming → Result T LineError) (before after : Stream) (error : LineError) : Type 0 where
+pub record IsStopped {T : Type 0} (limit : ℕ) (wanted : Coming → Result T LineError)
+    (before after : Stream) (error : LineError) : Type 0 where
   pub got : List ℕ
   pub consumes : Consumes before.left after.left got
   pub needed : IsNeeded limit wanted TooLong before.lines got
   pub stops : StopsAs limit wanted before after got error
-  pub blames : Blames before.faults after.faults (let r : Result T LineError = Err error in r)
+  pub blames : Blames before after error
 
--- what a call reads that keeps a piece of a line: at `true` it is the whole line, at `false` its front
+-- what a call reads that keeps a piece of a line: at `true` it is the whole line, at `false` its
+-- front
 abbrev pub PieceRead : ℕ → Stream → Stream → Result Bool LineError → Type 0
 PieceRead limit before after (Ok true) = IsLine limit before after after.lines.kept
 PieceRead limit before after (Ok false) = InLine limit before after after.lines.kept
@@ -85,7 +102,8 @@ PieceRead limit before after (Err error) = IsStopped limit next_line before afte
 
 -- what a call reads that skips a line
 abbrev pub RestRead : ℕ → Stream → Stream → Result ⊤ LineError → Type 0
-RestRead limit before after (Ok done) = (line : List ℕ) × IsLine limit before after line × (after.lines.kept ≡ [])
+RestRead limit before after (Ok done) =
+    (line : List ℕ) × IsLine limit before after line × (after.lines.kept ≡ [])
 RestRead limit before after (Err error) = IsStopped limit next_line before after error
 
 -- a line was kept, or is a long one and nothing is kept
@@ -94,7 +112,8 @@ IsKept kept line = (kept ≡ line) ⊎ ((kept ≡ []) × (4096 ≤ length line))
 
 -- what a call reads that keeps a line
 abbrev pub LineRead : ℕ → Stream → Stream → Result ⊤ LineError → Type 0
-LineRead limit before after (Ok done) = (line : List ℕ) × IsLine limit before after line × IsKept after.lines.kept line
+LineRead limit before after (Ok done) =
+    (line : List ℕ) × IsLine limit before after line × IsKept after.lines.kept line
 LineRead limit before after (Err error) = IsStopped limit next_line before after error
 
 -- the error of a byte that comes where the input was to end
@@ -106,7 +125,7 @@ pub record IsEnd (limit : ℕ) (before after : Stream) : Type 0 where
   pub ends : input_end (coming_in false limit before.lines []) ≡ Ok tt
   pub consumes : Consumes before.left after.left []
   pub left : HasEnded before.left after.left
-  pub later : before.faults ≤ after.faults
+  pub calm : IsCalm before after
 
 -- what a call reads where the input is to end
 abbrev pub EndRead : ℕ → Stream → Stream → Result ⊤ LineError → Type 0

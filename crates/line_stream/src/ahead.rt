@@ -1,6 +1,6 @@
 //! The bytes that were read ahead.
 
-ghost use Rattle.std.specs.Prelude.{◌≡◌, ◌<◌, ◌≤◌, ◌+◌, ◌-◌, ◌==◌, ℕ, true, false, List, [], ◌∷◌, ◌++◌, length, take, drop, min, IfOk, IfSome, OnOk, OnErr, if◌then◌else◌, nat_lt};
+ghost use Rattle.std.specs.Prelude.{◌≡◌, ◌<◌, ◌≤◌, ◌+◌, ◌-◌, ◌==◌, ℕ, true, false, List, [], ◌∷◌, ◌++◌, length, take, drop, min, IfOk, IfSome, OnOk, OnErr, IsTrue, if◌then◌else◌, nat_lt};
 ghost use Rattle.std.specs.List.{list_all, prefix_len};
 ghost use Rattle.std.specs.Io.KnownBytes.{Consumes, Keeps};
 ghost use Rattle.port_io.specs.Faults.{HasCause};
@@ -25,7 +25,8 @@ fn before_feed(bytes: &[u8]) -> usize
 /// whether it comes then.
 fn front_of_line(bytes: &[u8], most: usize) -> (usize, bool)
     ensures line { list_all is_no_feed (take result.0 bytes.now) ≡ true }
-    ensures feed { result.1 ≡ true → drop result.0 bytes.now ≡ 10 ∷ drop (result.0 + 1) bytes.now }
+    ensures feed { result.1 ≡ true
+        → drop result.0 bytes.now ≡ 10 ∷ drop (result.0 + 1) bytes.now }
     ensures within { result.0 + (if result.1 then 1 else 0) ≤ min most (length bytes.now) }
     ensures all { result.1 ≡ false → result.0 ≡ min most (length bytes.now) }
 {
@@ -84,6 +85,8 @@ impl Ahead {
         ensures err { OnErr result (Keeps (S.left source.old) (S.left source.new)) }
         ensures none { OnErr result (self.new ≡ []) }
         ensures cause { HasCause (S.faults source.old) (S.faults source.new) result }
+        ensures strict { IsTrue S.is_strict
+            → OnOk result (S.faults source.new ≡ S.faults source.old) }
     {
         self.at = 0;
         self.buffer.fill(source)?;

@@ -14,5 +14,6 @@ pub fn inputs_are_their_lines()
         → are_feedless (input_of limit bytes).lines ≡ true }
     ensures back { (limit : ℕ) (lines : List (List ℕ)) → are_feedless lines ≡ true
         → length (bytes_of lines) ≤ limit
-        → input_of limit (bytes_of lines) ≡ record { lines = lines; partial = []; goes_on = false } }
+        → input_of limit (bytes_of lines)
+        ≡ record { lines = lines; partial = []; goes_on = false } }
 {}

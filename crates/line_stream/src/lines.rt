@@ -86,8 +86,8 @@ impl<const LIMIT: u32> Lines<LIMIT> {
 
     /// Reads on where nothing is held, and says whether a byte is still to come.
     fn has_more<S: Source>(&mut self, source: &mut S) -> Result<bool, Failed>
-        ensures { Filled (stream S.left S.faults self.old source.old)
-            (stream S.left S.faults self.new source.new) result }
+        ensures { Filled (stream S.left S.faults S.is_strict self.old source.old)
+            (stream S.left S.faults S.is_strict self.new source.new) result }
     {
         if !self.ahead.is_empty() {
             return Ok(true);
@@ -128,10 +128,11 @@ impl<const LIMIT: u32> Lines<LIMIT> {
 
     /// Keeps the line that comes, or its next 4,096 bytes, and says whether its line feed came.
     pub fn read_piece<S: Source>(&mut self, source: &mut S) -> Result<bool, LineError>
-        ensures reads { PieceRead LIMIT (stream S.left S.faults self.old source.old)
-            (stream S.left S.faults self.new source.new) result }
+        ensures reads { PieceRead LIMIT (stream S.left S.faults S.is_strict self.old source.old)
+            (stream S.left S.faults S.is_strict self.new source.new) result }
         ensures full { IfOk result (λ feed. feed ≡ false → length self.new.kept ≡ 4096) }
-        ensures more { IsOk result → (self.old.read < self.new.read) × (self.new.read ≤ LIMIT) }
+        ensures more { IsOk result
+            → (self.old.read < self.new.read) × (self.new.read ≤ LIMIT) }
     {
         self.begin_line();
         while self.has_space() {
@@ -156,8 +157,8 @@ impl<const LIMIT: u32> Lines<LIMIT> {
 
     /// Reads the rest of a line, and keeps none of it.
     fn skip_line<S: Source>(&mut self, source: &mut S) -> Result<(), LineError>
-        ensures { RestRead LIMIT (stream S.left S.faults self.old source.old)
-            (stream S.left S.faults self.new source.new) result }
+        ensures { RestRead LIMIT (stream S.left S.faults S.is_strict self.old source.old)
+            (stream S.left S.faults S.is_strict self.new source.new) result }
     {
         while !self.read_piece(source)? {}
         self.begin_line();
@@ -166,8 +167,8 @@ impl<const LIMIT: u32> Lines<LIMIT> {
 
     /// Reads a line. It is kept where it has fewer than 4,096 bytes, and else nothing is.
     pub fn read_line<S: Source>(&mut self, source: &mut S) -> Result<(), LineError>
-        ensures { LineRead LIMIT (stream S.left S.faults self.old source.old)
-            (stream S.left S.faults self.new source.new) result }
+        ensures { LineRead LIMIT (stream S.left S.faults S.is_strict self.old source.old)
+            (stream S.left S.faults S.is_strict self.new source.new) result }
     {
         if self.read_piece(source)? {
             return Ok(());
@@ -189,8 +190,8 @@ impl<const LIMIT: u32> Lines<LIMIT> {
 
     /// Ends the reading: `Ok` exactly where the input ends here.
     pub fn read_end<S: Source>(&mut self, source: &mut S) -> Result<(), LineError>
-        ensures { EndRead LIMIT (stream S.left S.faults self.old source.old)
-            (stream S.left S.faults self.new source.new) result }
+        ensures { EndRead LIMIT (stream S.left S.faults S.is_strict self.old source.old)
+            (stream S.left S.faults S.is_strict self.new source.new) result }
     {
         match self.has_more(source) {
             Ok(false) => Ok(()),

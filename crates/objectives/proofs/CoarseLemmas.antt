@@ -45,6 +45,7 @@ size_up w h = omega (arith, ints)
 size_down : (w : ℤ) → up w ≡ 0 → unsigned_abs w ≡ down w
 size_down w h = omega (arith, ints)
 
+-- a product of positive weight whose radius is longer by at most e
 positive_le : (w : ℤ) (a b e : ℕ) → down w ≡ 0 → a ≤ b + e → (w *ℤ pos a) ≤ℤ (w *ℤ pos b +ℤ pos (unsigned_abs w * e))
 positive_le w a b e none h =
     let f : up w * a ≤ up w * (b + e) = mul-le-mul_left (up w) h in
@@ -53,6 +54,7 @@ positive_le w a b e none h =
     let k : unsigned_abs w * e ≡ up w * e = ap (λ n. n * e) (size_up w none) in
     omega (arith, ints, f, g, g', k)
 
+-- one of negative weight whose radius is shorter by at most e
 negative_le : (w : ℤ) (a b e : ℕ) → up w ≡ 0 → b ≤ a + e → (w *ℤ pos a) ≤ℤ (w *ℤ pos b +ℤ pos (unsigned_abs w * e))
 negative_le w a b e none h =
     let f : down w * b ≤ down w * (a + e) = mul-le-mul_left (down w) h in

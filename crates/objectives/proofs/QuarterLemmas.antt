@@ -1,5 +1,5 @@
 -- The fine bound of a square within another is at least the other's.
-use Rattle.std.proofs.Common.{◌≡◌, ℕ, ◌+◌, ◌-◌, ◌^◌, ◌≤◌, ◌<◌, ℤ, pos, ◌+ℤ◌, ◌*ℤ◌, ◌≤ℤ◌, ◌<ℤ◌, List, [], ◌∷◌, map, Option, None, Some, ap, ◌∙◌, suc, Bool, true, false, arith}
+use Rattle.std.proofs.Common.{ℕ, ◌^◌, ◌≤◌, ◌<◌, ℤ, pos, ◌+ℤ◌, ◌*ℤ◌, ◌≤ℤ◌, ◌<ℤ◌, List, [], ◌∷◌, map, Option, None, Some, arith}
 use Rattle.std.proofs.Math.Nat.{mul-le-mul_right}
 use Rattle.std.proofs.lemmas.Int.{clamps}
 use Rattle.std.specs.Prelude.{unsigned_abs}
@@ -33,6 +33,7 @@ near2-within s t a h =
     let y = square_le _ _ (near_on-within s.y t.y (2 ^ s.level) (2 ^ t.level) (pos 65536 *ℤ a.y) h.lower h.upper) in
     omega (arith, x, y)
 
+-- and of a square within it no point is farther
 far2-within : (s t : Square) (a : Place) → LiesWithin s t → far2 t a ≤ far2 s a
 unfolding far2
 far2-within s t a h =

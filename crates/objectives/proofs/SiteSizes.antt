@@ -67,6 +67,7 @@ way_size z a reach h k = omega (arith, ints)
 finer : (m most : ℕ) → m ≤ most * most → m * 2 ^ 32 ≤ (65536 * most) * (65536 * most)
 finer m most h = omega (arith, mul-le-mul_right (2 ^ 32) h)
 
+-- a site within this reach is at most this way from a demand point
 distance_size : (z : Pt) (d : DemandPt) (reach way : ℕ) → IsWithinReach z reach way → IsDemandPt d → distance2 (place_of d) (point_of z) ≤ way * way
 unfolding distance2
 distance_size z d reach way within lawful =
@@ -82,6 +83,7 @@ by_sign_le : (b : Bool) (m n most : ℕ) → m ≤ most → n ≤ most → cond 
 by_sign_le true m n most h k = h
 by_sign_le false m n most h k = k
 
+-- and its radius is at most that, in finer units
 radius_size : (z : Pt) (d : DemandPt) (reach way : ℕ) → IsWithinReach z reach way → IsDemandPt d → upper_radius z d ≤ 65536 * way
 unfolding upper_radius
 radius_size z d reach way within lawful =

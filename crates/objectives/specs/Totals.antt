@@ -1,6 +1,7 @@
 -- Totals that are made step by step, from weights and radii, and the law that each way to make one
 -- keeps.
-use Rattle.std.specs.Prelude.{◌≡◌, ℕ, ◌+◌, ◌*◌, ◌≤◌, ℤ, pos, ◌+ℤ◌, ◌*ℤ◌, ◌≤ℤ◌, ◌<ℤ◌, unsigned_abs, List, [], ◌∷◌, map, Option, Some, None, unwrap_or, ⊤}
+use Rattle.std.specs.Prelude.{◌≡◌, ℕ, ◌+◌, ◌*◌, ◌≤◌, ℤ, pos, ◌+ℤ◌, ◌*ℤ◌, ◌≤ℤ◌, ◌<ℤ◌}
+use Rattle.std.specs.Prelude.{unsigned_abs, List, [], ◌∷◌, map, Option, Some, None, unwrap_or, ⊤}
 use Rattle.std.specs.Int.{int_max}
 use Rattle.siting_definitions.specs.Instance.{DemandPt}
 
@@ -9,6 +10,7 @@ abbrev pub sum_joined : Option ℤ → ℤ → ℕ → ℤ
 sum_joined None w r = w *ℤ pos r
 sum_joined (Some t) w r = t +ℤ w *ℤ pos r
 
+-- the same, where the greatest product counts
 abbrev pub max_joined : Option ℤ → ℤ → ℕ → ℤ
 max_joined None w r = w *ℤ pos r
 max_joined (Some t) w r = int_max t (w *ℤ pos r)
@@ -29,6 +31,7 @@ Grow [] [] [] = ⊤
 Grow (w ∷ ws) (r ∷ rs) (s ∷ ss) = (pos 0 <ℤ w → r ≤ s) × (w <ℤ pos 0 → s ≤ r) × Grow ws rs ss
 Grow _ _ _ = ⊥
 
+-- the size of the total so far, and 0 where there is none
 abbrev pub size_of : Option ℤ → ℕ
 size_of None = 0
 size_of (Some t) = unsigned_abs t

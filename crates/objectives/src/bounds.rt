@@ -1,6 +1,7 @@
 //! The coarse and the fine bound of a square.
 
-ghost use Rattle.std.specs.Prelude.{◌≡◌, ℕ, ◌*◌, ◌≤◌, pos, unsigned_abs, true, map, sum_by, fold, unwrap_or, None};
+ghost use Rattle.std.specs.Prelude.{◌≡◌, ℕ, ◌*◌, ◌≤◌, pos, unsigned_abs};
+ghost use Rattle.std.specs.Prelude.{true, map, sum_by, fold, unwrap_or, None};
 ghost use Rattle.siting_definitions.specs.Point.{Point};
 ghost use Rattle.siting_definitions.specs.Instance.{DemandPt};
 ghost use Rattle.siting_definitions.specs.declared.TheConstants.{WEIGHT_LIMIT};
@@ -16,8 +17,8 @@ use crate::total::{MaxTotal, SumTotal, Total};
 use dyadic_square::Square;
 use site_model::{DemandPt, Instance, Kind};
 
-/// The coarse bound of a square, in cost units: no point of the closed square costs less. It takes whole roots in grid
-/// units. It is at most 7,712 * 10^15 in size, so below 2^63.
+/// The coarse bound of a square, in cost units: no point of the closed square costs less. It takes
+/// whole roots in grid units. It is at most 7,712 * 10^15 in size, so below 2^63.
 pub fn coarse(instance: &Instance, sq: Square) -> i64
     ensures value { result ≡ coarse_of instance.now sq }
     ensures bound { (p : Point) → holds_closed sq p ≡ true → CostAtLeast instance.now p result }
@@ -26,8 +27,8 @@ pub fn coarse(instance: &Instance, sq: Square) -> i64
     total_of(instance, &CoarseRadii(sq)) as i64
 }
 
-/// The fine bound of a square, in cost units: no point of the closed square costs less. It takes roots in units of
-/// 1/65536 of a grid unit. It is at most 7,712 * 10^15 in size, so below 2^63.
+/// The fine bound of a square, in cost units: no point of the closed square costs less. It takes
+/// roots in units of 1/UNIT of a grid unit. It is at most 7,712 * 10^15 in size, so below 2^63.
 pub fn fine(instance: &Instance, sq: Square) -> i64
     ensures value { result ≡ fine_of instance.now sq }
     ensures bound { (p : Point) → holds_closed sq p ≡ true → CostAtLeast instance.now p result }

@@ -3,8 +3,8 @@
 ghost use Rattle.std.specs.Prelude.{◌≡◌, ◌+ℤ◌, int_le};
 ghost use Rattle.siting_definitions.specs.Marks as marks;
 
-/// Whether there is a least upper cost, and the bound with the gap reaches it: it is at most their sum, all in cost units.
-/// Any numbers will do, since the sum is taken in 128 bits.
+/// Whether there is a least upper cost, and the bound with the gap reaches it: it is at most their
+/// sum, all in cost units. Any numbers will do, since the sum is taken in 128 bits.
 pub fn reaches(least: Option<i64>, bound: i64, gap: i64) -> bool
     ensures { result ≡ marks.reaches least (bound +ℤ gap) }
 {

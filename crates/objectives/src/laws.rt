@@ -15,7 +15,8 @@ pub fn fine_is_a_bound()
         → holds_closed s p ≡ true → CostAtLeast i p (fine_of i s) }
 {}
 
-/// The coarse bound is at most the fine one, which is less than the sum of the weights' sizes above it.
+/// The coarse bound is at most the fine one, which is less than the sum of the
+/// weights' sizes above it.
 pub fn coarse_is_below_fine()
     ensures below { (i : Instance) (s : Square) → coarse_of i s ≤ℤ fine_of i s }
     ensures near { (i : Instance) (s : Square)
@@ -39,7 +40,8 @@ pub fn costs_are_ordered()
     ensures { (i : Instance) (p : Point) (b c : ℤ) → CostAtLeast i p b → CostAtMost i p c → b ≤ℤ c }
 {}
 
-/// The upper cost of a site of an instance is at most 7,712 * 10^15 cost units in size, so below 2^63.
+/// The upper cost of a site of an instance is at most 7,712 * 10^15 cost
+/// units in size, so below 2^63.
 pub fn costs_are_small()
     ensures { (i : Instance) (z : Pt) → IsInstance i → IsSite z → IsCost (upper_of i z) }
 {}

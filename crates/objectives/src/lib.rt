@@ -1,7 +1,7 @@
 //! Bounds of squares and costs of sites.
 //!
-//! A cost unit is 1/65536 of weight times length. The coarse bound takes whole roots in grid units; the fine bound and the
-//! two costs of a site take them in units of 1/65536 of a grid unit.
+//! A cost unit is 1/UNIT of weight times length. The coarse bound takes whole roots in grid units;
+//! the fine bound and the two costs of a site take them in units of 1/UNIT of a grid unit.
 #![tactic(auto)]
 
 mod bounds;

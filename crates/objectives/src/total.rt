@@ -6,12 +6,14 @@ ghost use Rattle.objectives.specs.TotalLaws.{sum_is_total, max_is_total};
 
 /// How the terms "weight times radius" make a total, one after another.
 ///
-/// Joined over a list, the total never falls when a radius of positive weight grows, never rises when a radius of negative
-/// weight grows, and is multiplied by a number of at least 0 by which every radius is multiplied.
+/// Joined over a list, the total never falls when a radius of positive weight grows, never rises
+/// when a radius of negative weight grows, and is multiplied by a number of at least 0 by which
+/// every radius is multiplied.
 pub trait Total {
     ghost joined: { Option ℤ → ℤ → ℕ → ℤ };
 
-    /// The total with one more term, the weight `w` times the radius `r`. There is none so far at the first term.
+    /// The total with one more term, the weight `w` times the radius `r`. There is none so far at
+    /// the first term.
     fn join(so_far: Option<i128>, w: i64, r: u64) -> i128
         requires so_far { size_of so_far ≤ 2 ^ 100 }
         requires weight { unsigned_abs w ≤ 2 ^ 24 }

@@ -126,6 +126,7 @@ LeafSays i gap u s (Bounded c) = (is_excluded i s ≡ false) × (c ≤ℤ fine_o
 LeafSays i gap u s (Floor b) = (is_excluded i s ≡ false) × (s.level ≡ 0) × (b ≡ fine_of i s)
 LeafSays i gap u s (Left b) = (is_excluded i s ≡ false) × (b ≡ fine_of i s)
 
+-- the finished mark of a leaf says what it means
 leaf_says : (i : Instance) (gap : ℤ) (u : Option ℤ) (s : Square) → LeafSays i gap u s (leaf_mark i gap u s)
 unfolding leaf_mark
 leaf_says i gap u s =
@@ -144,6 +145,7 @@ leaf_says i gap u s =
 abbrev pub IsMarked : Instance → ℤ → Option ℤ → Node → Type 0
 IsMarked i gap u n = marks.MarkFits i gap u (tree_square n) n.mark
 
+-- a node that isn't left open fits as one that is logged
 closed-fits : (i : Instance) (gap : ℤ) (u : Option ℤ) (s : Square) (m : Mark) → is_open m ≡ false → marks.MarkFits i gap u (record { square = s; is_split = is_split m }) m → LoggedFits i gap u s m
 closed-fits i gap u s (Split v) closed h = h
 closed-fits i gap u s Shut closed h = subst (LeafSays i gap u s) (sym h) (leaf_says i gap u s)
@@ -178,6 +180,7 @@ begun_totals j ns leases s b f =
       total-map f tree_square ns,
     )
 
+-- a beginning from a tree is a tree of its root
 begun_tree : (j : Job) (ns : List Node) (leases : ℕ) (s : State) → IsResumable j ns leases → IsBegunFrom j ns leases s → AreTree s
 begun_tree j ns leases s r b =
     let t = r.tree.0 in
@@ -206,6 +209,7 @@ pub waiting_count : (ns : List Node) (es : List Entry) → IsPermutation (filter
 waiting_count ns es h =
     sym (length-map es left_of) ∙ length-permutation (filter is_left_open ns) (map left_of es) h ∙ length-filter is_left_open ns
 
+-- its counts fit
 begun_counts : (j : Job) (ns : List Node) (leases : ℕ) (s : State) → IsResumable j ns leases → IsBegunFrom j ns leases s → SearchCountsFit s
 begun_counts j ns leases s r b =
     let closed = closed_counts ns in
@@ -228,6 +232,7 @@ begun_counts j ns leases s r b =
       work = omega (arith, b.begun_leases, b.begun_raised, b.leases_are, b.kept);
     }
 
+-- what waits and what is logged is consistent
 begun_consistent : (j : Job) (ns : List Node) (leases : ℕ) (s : State) → IsResumable j ns leases → IsBegunFrom j ns leases s → IsConsistent s
 begun_consistent j ns leases s r b = record {
   tree = begun_tree j ns leases s r b;
@@ -236,6 +241,7 @@ begun_consistent j ns leases s r b = record {
   begun = ([], b.nodes ∙ sym b.begun_nodes ∙ sym (append-nil s.beginning.nodes));
 }
 
+-- its bounds and marks are right, with the start as the incumbent
 begun_costs : (j : Job) (ns : List Node) (leases : ℕ) (s : State) → IsLawful j → IsResumable j ns leases → IsBegunFrom j ns leases s → Costs j (start_cost j) s
 begun_costs j ns leases s lawful r b =
     let i = j.instance in

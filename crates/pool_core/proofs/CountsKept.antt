@@ -7,7 +7,7 @@ use Rattle.std.proofs.lemmas.Bool.Decides.{nat_tests}
 use Rattle.siting_definitions.specs.Excluded.{is_excluded}
 use Rattle.siting_definitions.specs.Marks.{is_split, reaches}
 use Rattle.siting_definitions.proofs.Totals.{count_by-append}
-use Rattle.dyadic_square.proofs.Bag.{once, total-append, total-length, total-permutation, count_by-total}
+use Rattle.dyadic_square.proofs.Bag.{once, total-length, total-permutation, count_by-total}
 use Rattle.discard_log.specs.declared.node.Node.{Node}
 use Rattle.bound_heap.specs.declared.entry.Entry.{Entry}
 use Rattle.pool_core.specs.declared.stop.Stop.{Stop}
@@ -106,6 +106,7 @@ record IsPaid (e : Entry) (entries : List Entry) (added : List Node) (parts : �
   pub splits : split_count added ≤ 1
   pub parts_wait : parts ≤ length entries
 
+-- a finding that is paid for by its lease leaves the counts as they have to be
 counts_moved : (e : Entry) (entries : List Entry) (added : List Node) (parts : ℕ) (before after : State)
     → Moves e entries added parts before after → IsPaid e entries added parts → open_count after ≤ before.job.pool → (after.stop ≡ None → after.kept ≡ 0)
     → SearchCountsFit before → SearchCountsFit after
@@ -127,6 +128,7 @@ once_le false = omega arith
 paid_kept : (e : Entry) → IsPaid e (e ∷ []) [] 1
 paid_kept e = record { paid = omega (arith, count_by-cons (λ (e : Entry). e.raised) e []); splits = omega arith; parts_wait = omega arith }
 
+-- a node that is logged is paid for
 paid_node : (e : Entry) (n : Node) → IsPaid e [] (n ∷ []) 0
 paid_node e n = record {
   paid = let r : once e.raised ≤ 1 = once_le e.raised in omega arith;
@@ -139,6 +141,7 @@ paid_raise e b fresh =
     let r : once e.raised ≡ 0 = ap once fresh in
     record { paid = omega (arith, count_by-total (λ (e : Entry). e.raised) (entries_from e.square (Raise b))); splits = omega arith; parts_wait = omega arith }
 
+-- so are a split and the four quarters
 paid_part : (e : Entry) (seen : Option ℤ) (b : ℤ) → IsPaid e (entries_from e.square (Part b)) (nodes_from e.square seen (Part b)) 0
 paid_part e seen b = record {
   paid = let r : once e.raised ≤ 1 = once_le e.raised in omega arith;
@@ -150,6 +153,7 @@ counts_node : (e : Entry) (n : Node) (before after : State) → Moves e [] (n �
 counts_node e n before after m stop fits =
     counts_moved e [] (n ∷ []) 0 before after m (paid_node e n) (omega arith) (λ none. omega (arith, m.kept, fits.going (sym stop ∙ none))) fits
 
+-- a split leaves the counts as they have to be, whether it is made or kept
 counts_part : (e : Entry) (seen : Option ℤ) (b : ℤ) (before after : State) (k : Bool) → is_kept before (Part b) ≡ k
     → Moves e (cond k (e ∷ []) (entries_from e.square (Part b))) (cond k [] (nodes_from e.square seen (Part b))) (cond k 1 0) before after
     → after.stop ≡ cond k (first_stop before.stop (PoolFull (open_count before))) before.stop → SearchCountsFit before → SearchCountsFit after
@@ -271,6 +275,7 @@ begun_unsplit s begun =
     let e : unsplit_count s.nodes ≡ unsplit_count s.beginning.nodes + unsplit_count begun.0 = node_counts (λ (n : Node). not (is_split n.mark)) s.beginning.nodes begun.0 s.nodes begun.1 in
     omega arith
 
+-- a node that is logged leaves a stop as it has to be
 stop_node : (e : Entry) (n : Node) (before after : State) → is_split n.mark ≡ false → Moves e [] (n ∷ []) 0 before after → after.job ≡ before.job → after.beginning ≡ before.beginning → after.stop ≡ before.stop → StopFits before before.stop → StopFits after after.stop
 stop_node e n before after leaf m job begun stop fits =
     let one : once (not (is_split n.mark)) ≡ 1 = ap (λ b. once (not b)) leaf in
@@ -289,6 +294,7 @@ stop_made : (before after : State) (stop : Option Stop) → is_some stop ≡ fal
 stop_made before after None none = tt
 stop_made before after (Some s) none = absurd (true≢false none)
 
+-- so does a split, whether it is made or kept
 stop_part : (e : Entry) (seen : Option ℤ) (b : ℤ) (before after : State) (k : Bool) → is_kept before (Part b) ≡ k
     → Moves e (cond k (e ∷ []) (entries_from e.square (Part b))) (cond k [] (nodes_from e.square seen (Part b))) (cond k 1 0) before after
     → after.stop ≡ cond k (first_stop before.stop (PoolFull (open_count before))) before.stop → after.job ≡ before.job → after.beginning ≡ before.beginning
@@ -331,6 +337,7 @@ size_node e n before after leaf m size =
     let none : once (is_split n.mark) ≡ 0 = ap once leaf in
     omega (arith, count_by-cons (λ (n : Node). is_split n.mark) n [])
 
+-- and it leaves the tree of one square and four more for each that is split
 size_part : (e : Entry) (seen : Option ℤ) (b : ℤ) (before after : State) (k : Bool)
     → Moves e (cond k (e ∷ []) (entries_from e.square (Part b))) (cond k [] (nodes_from e.square seen (Part b))) (cond k 1 0) before after → SizeFits before → SizeFits after
 size_part e seen b before after true m size = omega (arith, m.waiting, m.leased, m.nodes, m.split)

@@ -22,6 +22,7 @@ Parts a b = ((a.square.x ≡ b.square.x) × ((a.square.y ≡ b.square.y) × (a.s
 entry_of : (x y : ℤ) (level : ℕ) (bound : ℤ) (raised : Bool) → Entry
 entry_of x y level bound raised = record { square = record { x = x; y = y; level = level }; bound = bound; raised = raised }
 
+-- entries with equal parts are equal
 entry_is : (a b : Entry) → Parts a b → a ≡ b
 unfolding entry_of
 entry_is a b h =

@@ -73,6 +73,7 @@ past_centre : (centre : Option ℤ) (v : ℤ) → MatchOption centre ⊤ (IsAtMo
 past_centre None v h = tt
 past_centre (Some z) v h = h
 
+-- what was seen fits a split that wasn't settled
 seen-fits : (j : Job) (u seen : Option ℤ) (s : Square) → IsLawful j → IsSeen j u seen → MatchOption (centre_cost j.instance s) ⊤ (IsAtMost seen) → reaches seen (fine_of j.instance s +ℤ j.gap) ≡ false → SeenFits j.instance j.gap u s seen
 seen-fits j u None s lawful seen centre short =
     (no_opening (opening_cost j.instance) j.start lawful.opening seen, no_centre (centre_cost j.instance s) centre)

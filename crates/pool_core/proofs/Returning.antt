@@ -59,6 +59,7 @@ did_step e seen f k a b h fits =
       beginning = rw same at first;
     }
 
+-- a finding logs one node at most
 few_nodes : (k : Bool) (e : Entry) (seen : Option ℤ) (f : Finding) → length (cond k [] (nodes_from e.square seen f)) ≤ 1
 few_nodes true e seen f = omega arith
 few_nodes false e seen Excluded = omega arith
@@ -136,6 +137,7 @@ part_level j e seen b h =
     (fine_level b e.bound (reaches seen (e.bound +ℤ j.gap)) e.square.level)
     (coarse_level b _ _ e.square.level _ _ (λ e. cc)) h
 
+-- only a square above level 0 is found to be split
 found_level : (j : Job) (e : Entry) (seen : Option ℤ) (f : Finding) → f ≡ finding_of j e seen → is_part f ≡ true → 0 < e.square.level
 found_level j e seen Excluded is part = absurd (false≢true part)
 found_level j e seen (Bounded b) is part = absurd (false≢true part)

@@ -40,6 +40,7 @@ pub record AreSortedOut (ns : List Node) (i : ℕ) (entries : List Entry) (logge
   pub raised : All (λ (e : Entry). e.raised ≡ true) entries
   pub nodes : logged ≡ closed_nodes (take i ns)
 
+-- a mark that is not `Left` isn't one of an open leaf
 not_left : (m : Mark) → ((b : ℤ) → m ≡ Left b → ⊥) → is_open m ≡ false
 not_left (Split v) other = refl
 not_left Shut other = refl

@@ -23,6 +23,7 @@ use Rattle.pool_core.proofs.CountsKept.{counts_lease, counts_halt, counts_return
 abbrev pub HasBegun : State → Type 0
 HasBegun s = (later : List Node) × (s.nodes ≡ s.beginning.nodes ++ later)
 
+-- more logged nodes leave the beginning at the front
 has_begun : (before after : State) (added : List Node) → after.nodes ≡ before.nodes ++ added → after.beginning ≡ before.beginning → HasBegun before → HasBegun after
 has_begun before after added nodes beginning begun = (
   begun.0 ++ added,

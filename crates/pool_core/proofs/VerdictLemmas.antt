@@ -42,6 +42,7 @@ FindingFits j e seen (Part b) =
     × (reaches seen (fine_of j.instance e.square +ℤ j.gap) ≡ false)
 FindingFits j e seen (Floor b) = (is_excluded j.instance e.square ≡ false) × (e.square.level ≡ 0) × (b ≡ fine_of j.instance e.square)
 
+-- the finding by the fine bound is one that fits
 fine-fits : (j : Job) (e : Entry) (seen : Option ℤ) → is_excluded j.instance e.square ≡ false → e.bound ≡ fine_of j.instance e.square → FindingFits j e seen (finding_of_fine j e.square e.bound seen)
 fine-fits j e seen open_square is =
     let least : e.bound ≤ℤ fine_of j.instance e.square = omega (arith, ints, is) in
@@ -52,6 +53,7 @@ fine-fits j e seen open_square is =
     (λ floor. (open_square, eqb-true e.square.level 0 floor, is))
     (λ above. (open_square, omega (arith, eqb-false e.square.level 0 above), least, subst (λ b. reaches seen (b +ℤ j.gap) ≡ false) is short)))
 
+-- so is the one by a lesser bound
 coarse-fits : (j : Job) (e : Entry) (c : ℤ) (seen : Option ℤ) → is_excluded j.instance e.square ≡ false → e.raised ≡ false → c ≤ℤ fine_of j.instance e.square → fine_of j.instance e.square ≤ℤ ((c +ℤ pos (weight j.instance.points)) -ℤ pos 1) → FindingFits j e seen (finding_of_coarse j e.square c seen)
 coarse-fits j e c seen open_square fresh low high =
     let f = fine_of j.instance e.square in

@@ -1,5 +1,6 @@
 -- Pools that begin from the nodes of a finished tree.
-use Rattle.std.specs.Prelude.{◌≡◌, ℕ, ◌≤◌, Bool, true, List, [], map, filter, not, count_by, length, All, None, IsPermutation}
+use Rattle.std.specs.Prelude.{◌≡◌, ℕ, ◌≤◌, Bool, true, List, [], map, filter}
+use Rattle.std.specs.Prelude.{not, count_by, length, All, None, IsPermutation}
 use Rattle.siting_definitions.specs.declared.Mark.TheVariants.{Left}
 use Rattle.siting_definitions.specs.Tree.{Tree, preorder}
 use Rattle.siting_definitions.specs.Marks.{AreMarks, is_open}
@@ -9,6 +10,7 @@ use Rattle.bound_heap.specs.declared.entry.Entry.{Entry}
 use Rattle.pool_core.specs.Job.{Job, job_root, start_cost}
 use Rattle.pool_core.specs.State.{State, split_count}
 
+-- whether a node is left open
 abbrev pub is_left_open : Node → Bool
 is_left_open n = is_open n.mark
 

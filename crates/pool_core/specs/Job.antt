@@ -1,5 +1,6 @@
 -- A job: an instance, and the settings of the search over it.
-use Rattle.std.specs.Prelude.{◌≡◌, ℕ, ◌≤◌, ◌^◌, ℤ, pos, ◌≤ℤ◌, IsTrue, Option, option_map, MatchOption, ⊤}
+use Rattle.std.specs.Prelude.{◌≡◌, ℕ, ◌≤◌, ◌^◌, ℤ, pos, ◌≤ℤ◌, IsTrue}
+use Rattle.std.specs.Prelude.{Option, option_map, MatchOption, ⊤}
 use Rattle.siting_definitions.specs.Point.{Pt, point_of}
 use Rattle.siting_definitions.specs.Instance.{Instance, IsInstance}
 use Rattle.siting_definitions.specs.Permitted.{permits}
@@ -17,6 +18,7 @@ pub record Job : Type 0 where
   pub pool : ℕ
   pub start : Option (Pt × ℤ)
 
+-- the starting square of a job
 abbrev pub job_root : Job → Square
 job_root j = root_of j.instance
 
@@ -24,6 +26,7 @@ job_root j = root_of j.instance
 abbrev pub cost_in : Option (Pt × ℤ) → Option ℤ
 cost_in best = option_map (λ (b : Pt × ℤ). b.1) best
 
+-- the upper cost of the start, if there is one
 abbrev pub start_cost : Job → Option ℤ
 start_cost j = cost_in j.start
 

@@ -3,6 +3,7 @@ use Rattle.std.specs.Prelude.{◌≡◌}
 use Rattle.pool_core.specs.Job.{Job, IsJob, job_root}
 use Rattle.pool_core.specs.declared.job.Job.TheInside.{Inside}
 
+-- the job whose parts the fields have
 abbrev pub job_of : Inside → Job
 job_of a =
     record {

@@ -1,6 +1,9 @@
 -- The machine: which events may follow a state, and what each does.
-use Rattle.std.specs.Prelude.{◌≡◌, ◌+◌, ◌<◌, nat_lt, ℤ, ◌≤ℤ◌, Bool, true, false, if◌then◌else◌, ◌&&◌, ◌||◌, is_some, List, [], ◌∷◌, ◌++◌, map, length, All, IsPermutation, Option, Some, None, MatchOption, ⊤}
-use Rattle.siting_definitions.specs.declared.Mark.TheVariants.{Split, Shut, Bounded as BoundedMark, Floor as FloorMark}
+use Rattle.std.specs.Prelude.{◌≡◌, ◌+◌, ◌<◌, nat_lt, ℤ, ◌≤ℤ◌, Bool, true, false}
+use Rattle.std.specs.Prelude.{if◌then◌else◌, ◌&&◌, ◌||◌, is_some, List, [], ◌∷◌, ◌++◌, map}
+use Rattle.std.specs.Prelude.{length, All, IsPermutation, Option, Some, None, MatchOption, ⊤}
+use Rattle.siting_definitions.specs.declared.Mark.TheVariants.{Split, Shut, Bounded as BoundedMark}
+use Rattle.siting_definitions.specs.declared.Mark.TheVariants.{Floor as FloorMark}
 use Rattle.siting_definitions.specs.Point.{Pt}
 use Rattle.siting_definitions.specs.Square.{Square, quarters}
 use Rattle.siting_definitions.specs.Sites.{centre_cost}
@@ -10,7 +13,8 @@ use Rattle.bound_heap.specs.declared.entry.Entry.{Entry}
 use Rattle.pool_core.specs.declared.stop.Stop.{Stop}
 use Rattle.pool_core.specs.declared.stop.Stop.TheVariants.{PoolFull, Budget}
 use Rattle.pool_core.specs.declared.verdict.Finding.{Finding}
-use Rattle.pool_core.specs.declared.verdict.Finding.TheVariants.{Excluded, Bounded, Raise, Part, Floor}
+use Rattle.pool_core.specs.declared.verdict.Finding.TheVariants.{Excluded, Bounded}
+use Rattle.pool_core.specs.declared.verdict.Finding.TheVariants.{Raise, Part, Floor}
 use Rattle.pool_core.specs.Job.{Job, IsOffer, start_cost}
 use Rattle.pool_core.specs.Verdict.{finding_of, is_part}
 use Rattle.pool_core.specs.State.{State, Search, open_count}
@@ -92,6 +96,8 @@ pub record MayReturn (e : Entry) (seen : Option ℤ) (w : Search) : Type 0 where
   pub centre : is_part (finding_of w.state.job e seen) ≡ true
       → MatchOption (centre_cost w.state.job.instance e.square) ⊤ (IsAtMost seen)
 
+-- what may happen: an entry is leased, the search halts, a site is offered, or an entry comes back
+-- with what was seen of the incumbent
 pub data Event : Type 0 where
   Lease : Entry → Event
   Halt : Event

@@ -5,6 +5,7 @@ use Rattle.pool_core.specs.Job.{IsJob}
 use Rattle.pool_core.specs.State.{State, open_count, split_count}
 use Rattle.pool_core.specs.Sound.{SearchCountsFit}
 
+-- the state whose parts the fields have
 abbrev pub state_of : Inside → State
 state_of a =
     record {

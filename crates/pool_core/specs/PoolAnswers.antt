@@ -5,7 +5,8 @@ use Rattle.pool_core.specs.declared.lease.LeaseAnswer.TheVariants.{Stopped, Done
 use Rattle.pool_core.specs.declared.give_back.Given.{Given}
 use Rattle.pool_core.specs.declared.give_back.Given.TheVariants.{Logged, Raised, Parted, Kept}
 use Rattle.pool_core.specs.declared.verdict.Finding.{Finding}
-use Rattle.pool_core.specs.declared.verdict.Finding.TheVariants.{Excluded, Bounded, Raise, Part, Floor}
+use Rattle.pool_core.specs.declared.verdict.Finding.TheVariants.{Excluded, Bounded}
+use Rattle.pool_core.specs.declared.verdict.Finding.TheVariants.{Raise, Part, Floor}
 use Rattle.pool_core.specs.State.{State}
 use Rattle.pool_core.specs.Machine.{Leases, Halts, is_kept}
 
@@ -19,6 +20,7 @@ LeaseAnswers Idle before after =
     (before.stop ≡ None) × (before.waiting ≡ []) × (0 < length before.leased) × (after ≡ before)
 LeaseAnswers (Leased e) before after = Leases e before after
 
+-- what became of a square, by the finding that was carried out
 abbrev pub given_by : Finding → Given
 given_by Excluded = Logged
 given_by (Bounded b) = Logged

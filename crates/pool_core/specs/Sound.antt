@@ -1,6 +1,7 @@
 -- When a state is sound: its squares are those of one tree, its counts fit, and its bounds and
 -- marks are right.
-use Rattle.std.specs.Prelude.{◌≡◌, ◌+◌, ◌*◌, ◌<◌, ◌≤◌, ℤ, ◌+ℤ◌, ◌≤ℤ◌, true, false, List, [], ◌++◌, length, All, IsPermutation, Option, Some, None, MatchOption, ⊤}
+use Rattle.std.specs.Prelude.{◌≡◌, ◌+◌, ◌*◌, ◌<◌, ◌≤◌, ℤ, ◌+ℤ◌, ◌≤ℤ◌, true, false, List, [], ◌++◌}
+use Rattle.std.specs.Prelude.{length, All, IsPermutation, Option, Some, None, MatchOption, ⊤}
 use Rattle.siting_definitions.specs.declared.Mark.{Mark}
 use Rattle.siting_definitions.specs.declared.Mark.TheVariants.{Split, Shut, Bounded, Floor, Left}
 use Rattle.siting_definitions.specs.Point.{Pt}
@@ -15,7 +16,8 @@ use Rattle.bound_heap.specs.declared.entry.Entry.{Entry}
 use Rattle.pool_core.specs.declared.stop.Stop.{Stop}
 use Rattle.pool_core.specs.declared.stop.Stop.TheVariants.{PoolFull, Budget}
 use Rattle.pool_core.specs.Job.{Job, IsLawful, IsOffer, job_root, start_cost, cost_in}
-use Rattle.pool_core.specs.State.{State, Search, open_count, squares_of, split_count, unsplit_count, raised_count}
+use Rattle.pool_core.specs.State.{State, Search, open_count, squares_of}
+use Rattle.pool_core.specs.State.{split_count, unsplit_count, raised_count}
 
 -- Waiting, leased and logged squares are those of one tree of the root, each once, and the split
 -- ones are those with quarters in it.
@@ -70,9 +72,12 @@ LoggedFits i gap u s (Bounded c) =
 LoggedFits i gap u s (Floor b) = (is_excluded i s ≡ false) × (s.level ≡ 0) × (b ≡ fine_of i s)
 LoggedFits i gap u s (Left b) = ⊥
 
+-- the mark of a logged node is right
 abbrev pub NodeFits : Instance → ℤ → Option ℤ → Node → Type 0
 NodeFits i gap u n = LoggedFits i gap u n.square n.mark
 
+-- a lawful job, a consistent state, and right bounds and marks; the incumbent is the upper cost of
+-- a permitted site, and no more than that of the start
 pub record IsSound (w : Search) : Type 0 where
   pub job : IsLawful w.state.job
   pub consistent : IsConsistent w.state

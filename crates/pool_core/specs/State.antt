@@ -1,5 +1,6 @@
 -- The state of a search: what waits, what is leased, and what became of the other squares.
-use Rattle.std.specs.Prelude.{ℕ, ◌+◌, ℤ, false, List, [], ◌∷◌, ◌++◌, map, length, count_by, not, Option, None}
+use Rattle.std.specs.Prelude.{ℕ, ◌+◌, ℤ, false, List, [], ◌∷◌, ◌++◌}
+use Rattle.std.specs.Prelude.{map, length, count_by, not, Option, None}
 use Rattle.siting_definitions.specs.Bounds.{coarse_of}
 use Rattle.siting_definitions.specs.Marks.{is_split}
 use Rattle.siting_definitions.specs.Tree.{TreeSquare}
@@ -34,6 +35,7 @@ pub record Search : Type 0 where
   pub state : State
   pub incumbent : Option ℤ
 
+-- how many squares are open: those that wait and those that are leased
 abbrev pub open_count : State → ℕ
 open_count s = length s.waiting + length s.leased
 
@@ -49,12 +51,15 @@ squares_of s = map entry_square s.waiting ++ (map entry_square s.leased ++ map t
 abbrev pub split_count : List Node → ℕ
 split_count ns = count_by (λ (n : Node). is_split n.mark) ns
 
+-- how many nodes aren't split
 abbrev pub unsplit_count : List Node → ℕ
 unsplit_count ns = count_by (λ (n : Node). not (is_split n.mark)) ns
 
+-- how many entries have been raised to their fine bound
 abbrev pub raised_count : List Entry → ℕ
 raised_count es = count_by (λ (e : Entry). e.raised) es
 
+-- the starting square with its coarse bound
 abbrev pub root_entry : Job → Entry
 root_entry j =
     record { square = job_root j; bound = coarse_of j.instance (job_root j); raised = false }

@@ -1,5 +1,6 @@
 -- The verdict on a leased square.
-use Rattle.std.specs.Prelude.{nat_lt, ◌==◌, ℤ, pos, ◌+ℤ◌, ◌-ℤ◌, Bool, true, false, if◌then◌else◌, not, ◌&&◌, Option}
+use Rattle.std.specs.Prelude.{nat_lt, ◌==◌, ℤ, pos, ◌+ℤ◌, ◌-ℤ◌, Bool, true}
+use Rattle.std.specs.Prelude.{false, if◌then◌else◌, not, ◌&&◌, Option}
 use Rattle.std.specs.Int.{int_max}
 use Rattle.siting_definitions.specs.Instance.{weight}
 use Rattle.siting_definitions.specs.Bounds.{coarse_of, fine_of}
@@ -8,7 +9,8 @@ use Rattle.siting_definitions.specs.Marks.{reaches}
 use Rattle.siting_definitions.specs.Square.{Square}
 use Rattle.bound_heap.specs.declared.entry.Entry.{Entry}
 use Rattle.pool_core.specs.declared.verdict.Finding.{Finding}
-use Rattle.pool_core.specs.declared.verdict.Finding.TheVariants.{Excluded, Bounded, Raise, Part, Floor}
+use Rattle.pool_core.specs.declared.verdict.Finding.TheVariants.{Excluded, Bounded}
+use Rattle.pool_core.specs.declared.verdict.Finding.TheVariants.{Raise, Part, Floor}
 use Rattle.pool_core.specs.Job.{Job}
 
 -- The finding on a square whose bound wasn't raised, where c is at most its fine bound, and less by
@@ -35,6 +37,7 @@ finding_of j e seen =
     else if e.raised then finding_of_fine j e.square e.bound seen
     else finding_of_coarse j e.square (int_max e.bound (coarse_of j.instance e.square)) seen
 
+-- whether the finding is that the square is to be split
 abbrev pub is_part : Finding → Bool
 is_part Excluded = false
 is_part (Bounded b) = false

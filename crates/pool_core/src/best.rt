@@ -16,8 +16,8 @@ pub fn cost_in(best: &Option<(Site, i64)>) -> Option<i64>
     }
 }
 
-/// The better of the best site and one that is offered, each with its upper cost, in cost units. The best stays where the other
-/// doesn't cost less.
+/// The better of the best site and one that is offered, each with its upper cost, in cost units.
+/// The best stays where the other doesn't cost less.
 pub fn better_of(best: &Option<(Site, i64)>, offered: &Option<(Site, i64)>) -> Option<(Site, i64)>
     ensures { result ≡ bests.better_of best.now offered.now }
 {

@@ -1,6 +1,8 @@
 //! Giving a leased square back.
 
-ghost use Rattle.std.specs.Prelude.{◌≡◌, ◌+◌, ◌<◌, ◌≤◌, nat_lt, ◌&&◌, ◌||◌, true, false, is_some, Some, [], ◌∷◌, ◌++◌, length, vec_capacity, slice_index_or, Contains, IsPermutation};
+ghost use Rattle.std.specs.Prelude.{◌≡◌, ◌+◌, ◌<◌, ◌≤◌, nat_lt, ◌&&◌, ◌||◌, true, false};
+ghost use Rattle.std.specs.Prelude.{is_some, Some, [], ◌∷◌, ◌++◌, length, vec_capacity};
+ghost use Rattle.std.specs.Prelude.{slice_index_or, Contains, IsPermutation};
 ghost use Rattle.siting_definitions.specs.Square.{quarter_of};
 ghost use Rattle.pool_core.specs.declared.stop.Stop.TheVariants as stops;
 ghost use Rattle.pool_core.specs.declared.verdict.Finding.TheVariants as findings;
@@ -27,13 +29,14 @@ pub enum Given {
     Raised,
     /// It was split, and its quarters wait.
     Parted,
-    /// It waits again as it was, since there was a stop or no room for three more open squares, which is a stop from now on.
+    /// It waits again as it was, since there was a stop or no room for three more open squares,
+    /// which is a stop from now on.
     Kept,
 }
 
 impl Pool {
-    /// Takes a leased square back with the verdict on it. The lease is one of this pool's, and the verdict is the one on it for the pool's
-    /// job and the number that was seen.
+    /// Takes a leased square back with the verdict on it. The lease is one of this pool's, and the
+    /// verdict is the one on it for the pool's job and the number that was seen.
     pub fn give_back(&mut self, lease: Lease, verdict: Verdict) -> Given
         requires leased { Contains self.old.leased lease }
         requires verdict { verdict.finding ≡ finding_of self.old.job lease verdict.seen }
@@ -56,7 +59,8 @@ impl Pool {
     }
 }
 
-/// Whether a part isn't made: there is a stop, or so many squares are open that there is no room for three more.
+/// Whether a part isn't made: there is a stop, or so many squares are open that there is no room
+/// for three more.
 fn is_kept(stop: Option<Stop>, job: &Job, count: u32, finding: Finding) -> bool
     requires { count ≤ job.now.pool }
     ensures { result ≡ (is_part finding && (is_some stop || nat_lt job.now.pool (count + 3))) }
@@ -111,7 +115,8 @@ fn add_node(log: &mut Log, square: Square, mark: Mark)
     log.push(Node { square, mark });
 }
 
-/// Adds to those that wait what a finding lets wait: the square with its fine bound, its quarters, or nothing.
+/// Adds to those that wait what a finding lets wait: the square with its fine bound, its quarters,
+/// or nothing.
 fn wait_found(waiting: &mut Heap, square: Square, finding: Finding)
     requires level { is_part finding ≡ true → 0 < square.level }
     requires room { length (entries_from square finding) ≤ waiting.old.spare }

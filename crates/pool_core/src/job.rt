@@ -14,7 +14,8 @@ use std::marker::Model;
 pub struct Job {
     /// The instance whose best site is sought.
     pub instance: Instance,
-    /// The gap asked, in cost units, 0 to 2^62: a square is settled where its bound and the gap reach the least upper cost.
+    /// The gap asked, in cost units, 0 to 2^62: a square is settled where its bound and the gap
+    /// reach the least upper cost.
     pub gap: i64,
     /// How many leases may be given, 0 to 1,000,000.
     pub budget: u32,
@@ -22,7 +23,8 @@ pub struct Job {
     pub pool: u32,
     /// The starting square of the instance.
     pub root: Square,
-    /// A permitted site with its upper cost, in cost units, from which the search for a better one sets out.
+    /// A permitted site with its upper cost, in cost units, from which the search
+    /// for a better one sets out.
     pub start: Option<(Site, i64)>,
 }
 
@@ -56,7 +58,8 @@ impl Clone for Job {
 }
 
 impl Job {
-    /// The job of finding the best site of an instance, within the gap, with this many leases and open squares.
+    /// The job of finding the best site of an instance, within the gap, with this many leases and
+    /// open squares.
     pub fn new(
         instance: Instance,
         gap: i64,

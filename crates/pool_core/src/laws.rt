@@ -10,8 +10,9 @@ ghost use Rattle.pool_core.specs.State.{State, Search, first_state, squares_of};
 ghost use Rattle.pool_core.specs.Machine.{Event, Run};
 ghost use Rattle.pool_core.specs.Sound.{IsPoolOf, IsSound};
 
-/// Whatever events follow one another, from the beginning of a lawful job or from any other sound state, the state stays
-/// sound, and what waits, what is leased and the logged squares that aren't split tile the root.
+/// Whatever events follow one another, from the beginning of a lawful job or from any other sound
+/// state, the state stays sound, and what waits, what is leased and the logged squares that aren't
+/// split tile the root.
 pub fn every_run_is_sound()
     ensures first { (j : Job) → IsLawful j → IsPoolOf j (first_state j) }
     ensures sound { (before after : Search) (events : List Event)

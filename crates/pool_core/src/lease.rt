@@ -61,7 +61,8 @@ pub enum LeaseAnswer {
 }
 
 impl Pool {
-    /// Leases a waiting square of least bound, where there is no stop, something waits and the budget isn't spent.
+    /// Leases a waiting square of least bound, where there is no stop, something waits and the
+    /// budget isn't spent.
     pub fn lease(&mut self) -> LeaseAnswer
         ensures { LeaseAnswers result self.old self.new }
     {

@@ -1,12 +1,14 @@
 //! The pool, from its beginning to the nodes that it ends with.
 
-ghost use Rattle.std.specs.Prelude.{◌≡◌, ◌+◌, ◌≤◌, ◌++◌, [], map, filter, true, length, vec_capacity, All, IfOk, IsPermutation};
+ghost use Rattle.std.specs.Prelude.{◌≡◌, ◌+◌, ◌≤◌, ◌++◌, [], map, filter, true};
+ghost use Rattle.std.specs.Prelude.{length, vec_capacity, All, IfOk, IsPermutation};
 ghost use Rattle.siting_definitions.specs.Tree.{Tree, Fits, preorder};
 ghost use Rattle.discard_log.specs.Nodes.{tree_square};
 ghost use Rattle.pool_core.specs.Job.{job_root};
 ghost use Rattle.pool_core.specs.State as states;
 ghost use Rattle.pool_core.specs.State.{first_state, squares_of};
-ghost use Rattle.pool_core.specs.Begun.{IsBegunFrom, IsResumable, closed_nodes, is_left_open, left_count, left_of};
+ghost use Rattle.pool_core.specs.Begun.{IsBegunFrom, IsResumable, closed_nodes};
+ghost use Rattle.pool_core.specs.Begun.{is_left_open, left_count, left_of};
 ghost use Rattle.bound_heap.specs.declared.entry.Entry as entries;
 
 use crate::job::Job;
@@ -40,8 +42,8 @@ impl From<discard_log::NoMemory> for NoMemory {
     }
 }
 
-/// The squares of a search: those that wait, those that are leased, and what became of the others. All its memory is taken at
-/// the beginning.
+/// The squares of a search: those that wait, those that are leased, and what became of the others.
+/// All its memory is taken at the beginning.
 #[derive(Drop)]
 pub struct Pool {
     pub(crate) job: Job,
@@ -72,8 +74,9 @@ impl Model for Pool {
 }
 
 impl Pool {
-    /// The pool in which the root of the job waits with its coarse bound. It takes room for as many entries as may be open, and for
-    /// the nodes of as many splits as leases may be given; `NoMemory` where memory ran out.
+    /// The pool in which the root of the job waits with its coarse bound. It takes room for as many
+    /// entries as may be open, and for the nodes of as many splits as leases may be given;
+    /// `NoMemory` where memory ran out.
     pub fn begin(alloc: Global, job: &Job) -> Result<Pool, NoMemory>
         ensures { IfOk result (λ pool. pool ≡ first_state job.now) }
     {
@@ -102,8 +105,9 @@ impl Pool {
         })
     }
 
-    /// The pool in which the squares of a finished tree that were left open wait, after this many leases. The nodes are in preorder, with the
-    /// finished marks for the start's cost. It takes room as `begin` does; `NoMemory` where memory ran out.
+    /// The pool in which the squares of a finished tree that were left open wait, after this many
+    /// leases. The nodes are in preorder, with the finished marks for the start's cost. It takes
+    /// room as `begin` does; `NoMemory` where memory ran out.
     pub fn begin_from(
         alloc: Global,
         job: &Job,
@@ -156,7 +160,8 @@ impl Pool {
         (self.waiting.len() + self.leased.len()) as u32
     }
 
-    /// The nodes, and each waiting square left open with its bound. Where they are the squares of one tree, they come in its preorder.
+    /// The nodes, and each waiting square left open with its bound. Where they are the squares of
+    /// one tree, they come in its preorder.
     pub fn into_nodes(self) -> NodeList
         requires { self.leased ≡ [] }
         ensures nodes { IsPermutation (self.nodes ++ map left_of self.waiting) result }

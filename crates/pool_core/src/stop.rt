@@ -3,7 +3,8 @@
 /// Why nothing more is leased.
 #[derive(Clone, Copy, Debug, PartialEq, Eq)]
 pub enum Stop {
-    /// A square was to be split while this many squares were open, and there was no room for three more.
+    /// A square was to be split while this many squares were open, and there
+    /// was no room for three more.
     PoolFull {
         /// How many squares were open, this one among them.
         count: u32,

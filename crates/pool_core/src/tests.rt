@@ -9,30 +9,14 @@ ghost use Rattle.pool_core.specs.Begun.{IsResumable};
 use super::*;
 use answer_model::leaf_mark;
 use candidate_sites::{centre_site, opening};
-use convex_region::Polygon;
+use case_maker::one_town;
 use discard_log::{Log, Mark, Node, NodeList};
 use dyadic_square::Square;
-use exact_geometry::Place;
 use exclusion::excluded;
 use objectives::{cost_of, fine, reaches};
-use site_model::{DemandPt, Instance, Kind, Site};
+use site_model::Site;
 use std::alloc::Global;
 use std::process::Abort;
-
-#[tactic(auto, unfolding(siting_definitions::specs::Instance::weight))]
-fn instance(rt: &impl Abort, alloc: Global) -> Instance {
-    let square = [
-        Place::of(0, 0),
-        Place::of(4, 0),
-        Place::of(4, 4),
-        Place::of(0, 4),
-    ];
-    let polygon = Polygon::build(alloc, &square).expect(rt, "a polygon");
-    let points = Vec::from_array(alloc, [DemandPt::of(2, 2, 1, None)]).expect(rt, "memory");
-    let permitted = Vec::from_array(alloc, [polygon]).expect(rt, "memory");
-    let forbidden = Vec::new(alloc);
-    Instance::build(Kind::Sum, points, permitted, forbidden)
-}
 
 /// The job of the instance with a gap of 185, from its corner.
 fn job(rt: &impl Abort, alloc: Global, budget: u32, pool: u32) -> Job
@@ -40,7 +24,7 @@ fn job(rt: &impl Abort, alloc: Global, budget: u32, pool: u32) -> Job
     requires pool_least { 1 ≤ pool }
     requires pool_most { pool ≤ 1000000 }
 {
-    let instance = instance(rt, alloc);
+    let instance = one_town(alloc).expect(rt, "memory");
     let _count = instance.points().len();
     let site = Site::of(0, 0);
     assert!(rt; instance.permits(site.pt()));

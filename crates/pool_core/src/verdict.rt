@@ -11,8 +11,8 @@ use dyadic_square::Square;
 use exclusion::excluded;
 use objectives::{coarse, fine, reaches};
 
-/// What is found of a leased square. Each number is a bound, in cost units: where the pool is sound, no point of the square
-/// costs less.
+/// What is found of a leased square. Each number is a bound, in cost units: where the pool is
+/// sound, no point of the square costs less.
 #[derive(Clone, Copy, Debug, PartialEq, Eq)]
 pub enum Finding {
     /// No point of it is permitted.
@@ -67,7 +67,8 @@ fn judge_fine(job: &Job, square: Square, bound: i64, seen: Option<i64>) -> Findi
     }
 }
 
-/// The finding on a square whose bound, in cost units, is at most its fine bound, and less by less than the instance's weight.
+/// The finding on a square whose bound, in cost units, is at most its fine bound, and less by less
+/// than the instance's weight.
 fn judge_coarse(job: &Job, square: Square, bound: i64, seen: Option<i64>) -> Finding
     ensures { result ≡ finding_of_coarse job.now square bound seen }
 {
@@ -80,7 +81,8 @@ fn judge_coarse(job: &Job, square: Square, bound: i64, seen: Option<i64>) -> Fin
     }
 }
 
-/// Whether a square is to be split before its fine bound is known: it can be split, and no fine bound would settle it.
+/// Whether a square is to be split before its fine bound is known: it can be split, and no fine
+/// bound would settle it.
 fn is_for_parting(job: &Job, square: Square, bound: i64, seen: Option<i64>) -> bool
     ensures { result ≡ (nat_lt 0 square.level
         && not (marks.reaches seen
@@ -89,7 +91,8 @@ fn is_for_parting(job: &Job, square: Square, bound: i64, seen: Option<i64>) -> b
     square.level > 0 && !reaches_beyond(seen, bound, job.instance.weight(), job.gap)
 }
 
-/// Whether there is a least upper cost, and it is at most the sum of a bound, a weight less 1, and the gap, all in cost units.
+/// Whether there is a least upper cost, and it is at most the sum of a bound, a weight less 1, and
+/// the gap, all in cost units.
 fn reaches_beyond(least: Option<i64>, bound: i64, weight: i64, gap: i64) -> bool
     requires weight_least { pos 0 ≤ℤ weight }
     requires weight_most { weight ≤ℤ pos 16000000 }

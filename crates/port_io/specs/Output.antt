@@ -1,23 +1,30 @@
 -- What contracts see of an `Out`, and the one contract of all calls that write to it.
-use Rattle.std.specs.Prelude.{◌≡◌, ℕ, Bool, false, List, [], ◌++◌, Option, Result, OnOk, OnErr, is_err}
+use Rattle.std.specs.Prelude.{◌≡◌, ℕ, ◌+◌, ◌<◌, Bool, false, List, [], ◌++◌, length, Option, Result, OnOk, OnErr, IsTrue, is_err}
 use Rattle.std.specs.Fmt.{signed_decimal}
 use Rattle.port_io.specs.Faults.{HasCause}
 use Rattle.port_io.specs.Bytes.{Took, TookFront}
+use Rattle.port_io.specs.declared.buffer.TheConstants.{BUFFER_SIZE}
 use Rattle.port_io.specs.declared.buffered.Out.{Out}
 use Rattle.port_io.specs.declared.buffered.Piece.{Piece}
 use Rattle.port_io.specs.declared.buffered.Piece.TheVariants.{Text, Number}
 
--- what a sink shows: its room, the bytes it tells, and its count of faults
+-- what a sink shows: its room, the bytes it tells, its count of faults, and whether that stays in
+-- each call that doesn't fail
 pub record SinkView : Type 0 where
   pub room : Option ℕ
   pub taken : Option (List ℕ)
   pub faults : ℕ
+  pub is_strict : Bool
 
 -- the view of a sink with these members
-abbrev pub sink_view : {K : Type 0} → (K → Option ℕ) → (K → Option (List ℕ)) → (K → ℕ)
+abbrev pub sink_view : {K : Type 0} → (K → Option ℕ) → (K → Option (List ℕ)) → (K → ℕ) → Bool
     → K → SinkView
-sink_view room taken faults sink =
-    record { room = room sink; taken = taken sink; faults = faults sink }
+sink_view room taken faults is_strict sink = record {
+  room = room sink;
+  taken = taken sink;
+  faults = faults sink;
+  is_strict = is_strict;
+}
 
 -- an `Out`: the view of the sink behind it, the bytes that wait in its buffer, and whether a call
 -- on it failed
@@ -27,9 +34,10 @@ pub record Stage : Type 0 where
   pub failed : Bool
 
 -- the stage of an `Out` over a sink with these members
-abbrev pub stage : {K : Type 0} → (K → Option ℕ) → (K → Option (List ℕ)) → (K → ℕ) → Out K → Stage
-stage room taken faults out = record {
-  sink = sink_view room taken faults out.sink.now;
+abbrev pub stage : {K : Type 0} → (K → Option ℕ) → (K → Option (List ℕ)) → (K → ℕ) → Bool
+    → Out K → Stage
+stage room taken faults is_strict out = record {
+  sink = sink_view room taken faults is_strict out.sink.now;
   waiting = out.waiting;
   failed = out.failed;
 }
@@ -57,9 +65,22 @@ pub record Puts (room : Option ℕ) (before : Option (List ℕ)) (waited : List 
   pub parts : waited ++ bytes ≡ sent ++ waiting
   pub took : Took room before after sent
 
--- what a call on an `Out` does that puts these bytes: at `Ok` all went on; at `Err`, which only a
+-- Calls that write to a sink: it is as strict as before, and its count stayed if it is strict and
+-- no call failed.
+pub record IsHeard {T E : Type 0} (before after : SinkView) (result : Result T E) : Type 0 where
+  pub same : after.is_strict ≡ before.is_strict
+  pub quiet : IsTrue before.is_strict → OnOk result (after.faults ≡ before.faults)
+
+-- nothing went to the sink: the bytes wait behind those that waited
+pub record Waits {T E : Type 0} (before after : Stage) (bytes : List ℕ) (result : Result T E)
+    : Type 0 where
+  pub ok : is_err result ≡ false
+  pub sink : after.sink ≡ before.sink
+  pub waiting : after.waiting ≡ before.waiting ++ bytes
+
+-- What a call on an `Out` does that puts these bytes: at `Ok` all went on; at `Err`, which only a
 -- fault of the sink makes, the sink took a front of what was put, and the `Out` is failed from then
--- on
+-- on. As long as fewer bytes wait than the buffer holds, nothing goes to the sink.
 pub record Put {T E : Type 0} (before after : Stage) (bytes : List ℕ) (result : Result T E)
     : Type 0 where
   pub ok : OnOk result
@@ -69,14 +90,17 @@ pub record Put {T E : Type 0} (before after : Stage) (bytes : List ℕ) (result 
   pub failed : after.failed ≡ is_err result
   pub room : after.sink.room ≡ before.sink.room
   pub cause : HasCause before.sink.faults after.sink.faults result
+  pub heard : IsHeard before.sink after.sink result
+  pub lazy : length before.waiting + length bytes < BUFFER_SIZE → Waits before after bytes result
 
 -- The one contract of the calls on an `Out` over a sink with these members: these bytes were put,
 -- and it still writes to the same sink.
 pub record PutOn {K T E : Type 0}
-    (room : K → Option ℕ) (taken : K → Option (List ℕ)) (faults : K → ℕ)
+    (room : K → Option ℕ) (taken : K → Option (List ℕ)) (faults : K → ℕ) (is_strict : Bool)
     (before after : Out K) (bytes : List ℕ) (result : Result T E) : Type 0 where
   pub same : sink_of after ≡ sink_of before
-  pub put : Put (stage room taken faults before) (stage room taken faults after) bytes result
+  pub put : Put (stage room taken faults is_strict before) (stage room taken faults is_strict after)
+      bytes result
 
 -- what a call does that writes these bytes to a sink: at `Ok` the sink took all of them, at `Err`,
 -- which only a fault of the sink makes, a front of them
@@ -86,6 +110,7 @@ pub record Wrote {T E : Type 0} (before after : SinkView) (bytes : List ℕ) (re
   pub err : OnErr result (TookFront before.room before.taken after.taken bytes)
   pub room : after.room ≡ before.room
   pub cause : HasCause before.faults after.faults result
+  pub heard : IsHeard before after result
 
 -- the bytes of a piece
 abbrev pub piece_text : Piece → List ℕ

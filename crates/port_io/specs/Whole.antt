@@ -1,5 +1,5 @@
 -- Reading an input to its end.
-use Rattle.std.specs.Prelude.{ℕ, ◌+◌, ◌<◌, ◌≤◌, Result, Ok, Err}
+use Rattle.std.specs.Prelude.{ℕ, ◌+◌, ◌<◌, ◌≤◌, Result, Ok, Err, ⊤}
 use Rattle.port_io.specs.declared.whole.TheConstants.{PIECE}
 use Rattle.port_io.specs.declared.whole.ReadAll.{ReadAll}
 use Rattle.port_io.specs.declared.whole.ReadAll.TheVariants.{TooLong, ReadFault, NoMemory}
@@ -12,3 +12,10 @@ StopsWithin limit read (Ok bytes) = read ≤ limit
 StopsWithin limit read (Err TooLong) = (limit < read) × (read ≤ limit + PIECE)
 StopsWithin limit read (Err ReadFault) = read ≤ limit
 StopsWithin limit read (Err NoMemory) = read ≤ limit
+
+-- what holds where something else than `ReadFault` is answered
+abbrev pub UnlessReadFault : {T : Type 0} → Result T ReadAll → Type 0 → Type 0
+UnlessReadFault (Ok bytes) holds = holds
+UnlessReadFault (Err TooLong) holds = holds
+UnlessReadFault (Err ReadFault) holds = ⊤
+UnlessReadFault (Err NoMemory) holds = holds

@@ -1,6 +1,6 @@
 //! The readers and writers of std as ports.
 
-ghost use Rattle.std.specs.Prelude.{◌≡◌, ℕ, ◌<◌, ◌≤◌, None, Some, length, IfOk, refl};
+ghost use Rattle.std.specs.Prelude.{◌≡◌, ℕ, ◌<◌, ◌≤◌, None, Some, length, true, IfOk, OnOk, IsTrue, refl};
 ghost use Rattle.port_io.specs.Faults.{HasCause, CountsFaults};
 ghost use Rattle.std.specs.Io.KnownBytes.{WriteAppends};
 ghost use Rattle.port_io.specs.Adapters.{writer_of};
@@ -32,6 +32,8 @@ impl<R: Read> Source for StdSource<R> {
 
     ghost faults = { λ s. s.faults };
 
+    ghost is_strict = { true };
+
     fn read(&mut self, buf: &mut [u8]) -> Result<usize, Failed>
         requires { 0 < length buf.old }
         ensures bound { IfOk result (λ n. n ≤ length buf.new) }
@@ -39,6 +41,9 @@ impl<R: Read> Source for StdSource<R> {
             (⟦<StdSource<R> as Source>⟧.left self.new) result buf.new }
         ensures cause { HasCause (⟦<StdSource<R> as Source>⟧.faults self.old)
             (⟦<StdSource<R> as Source>⟧.faults self.new) result }
+        ensures strict { IsTrue true → OnOk result
+            (⟦<StdSource<R> as Source>⟧.faults self.new
+            ≡ ⟦<StdSource<R> as Source>⟧.faults self.old) }
 
         // The count rises by one where the read failed, and nowhere else.
         ensures faults { CountsFaults (⟦<StdSource<R> as Source>⟧.faults self.old)
@@ -86,6 +91,8 @@ impl<W: Write> Sink for StdSink<W> {
 
     ghost faults = { λ s. s.faults };
 
+    ghost is_strict = { true };
+
     ghost nothing = { λ _. refl };
 
     fn write(&mut self, piece: &[u8]) -> Result<usize, Failed>
@@ -93,6 +100,8 @@ impl<W: Write> Sink for StdSink<W> {
         ensures bound { IfOk result (λ n. (0 < n) × (n ≤ length piece.now)) }
         ensures cause { HasCause (⟦<StdSink<W> as Sink>⟧.faults self.old)
             (⟦<StdSink<W> as Sink>⟧.faults self.new) result }
+        ensures strict { IsTrue true → OnOk result
+            (⟦<StdSink<W> as Sink>⟧.faults self.new ≡ ⟦<StdSink<W> as Sink>⟧.faults self.old) }
 
         // The bytes that it took went to the writer.
         ensures passed { WriteAppends (W.contents (writer_of self.old))

@@ -94,6 +94,8 @@ impl Buffer {
         ensures err { OnErr result (Keeps (S.left source.old) (S.left source.new)) }
         ensures none { OnErr result (self.new ≡ []) }
         ensures cause { HasCause (S.faults source.old) (S.faults source.new) result }
+        ensures strict { IsTrue S.is_strict
+            → OnOk result (S.faults source.new ≡ S.faults source.old) }
     {
         self.len = 0;
         let count = source.read(&mut self.bytes)?;

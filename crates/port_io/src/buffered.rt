@@ -1,6 +1,6 @@
 //! Output through a buffer of fixed size.
 
-ghost use Rattle.std.specs.Prelude.{◌≡◌, ◌<◌, [], length, OnOk};
+ghost use Rattle.std.specs.Prelude.{◌≡◌, ◌<◌, [], length, OnOk, is_err};
 ghost use Rattle.std.specs.Fmt.{signed_decimal};
 ghost use Rattle.std.specs.List.{flat_map};
 ghost use Rattle.port_io.specs.Output.{PutOn, Wrote, IsOpen, has_failed, sink_of, sink_view, stage, fresh, piece_text};
@@ -14,8 +14,8 @@ pub struct WriteFault;
 
 /// Writes all bytes to the sink.
 fn write_all<K: Sink>(sink: &mut K, bytes: &[u8]) -> Result<(), WriteFault>
-    ensures { Wrote (sink_view K.room K.taken K.faults sink.old)
-        (sink_view K.room K.taken K.faults sink.new) bytes.now result }
+    ensures { Wrote (sink_view K.room K.taken K.faults K.is_strict sink.old)
+        (sink_view K.room K.taken K.faults K.is_strict sink.new) bytes.now result }
 {
     let mut at = 0;
     while at < bytes.len() {
@@ -52,8 +52,8 @@ impl<'a, K: Sink> Out<'a, K> {
     /// Output to this sink, with nothing put yet.
     pub fn new(sink: &'a mut K) -> Out<'a, K>
         ensures same { sink_of result ≡ sink.entry.ghost_name }
-        ensures stage { stage K.room K.taken K.faults result
-            ≡ fresh (sink_view K.room K.taken K.faults sink.old) }
+        ensures stage { stage K.room K.taken K.faults K.is_strict result
+            ≡ fresh (sink_view K.room K.taken K.faults K.is_strict sink.old) }
     {
         Out {
             sink,
@@ -72,7 +72,7 @@ impl<'a, K: Sink> Out<'a, K> {
     /// Puts these bytes.
     pub fn put(&mut self, bytes: &[u8]) -> Result<(), WriteFault>
         requires { IsOpen self.old }
-        ensures { PutOn K.room K.taken K.faults self.old self.new bytes.now result }
+        ensures { PutOn K.room K.taken K.faults K.is_strict self.old self.new bytes.now result }
     {
         let mut at = 0;
         while at < bytes.len() {
@@ -85,7 +85,8 @@ impl<'a, K: Sink> Out<'a, K> {
     /// Puts this number in decimal, with a `-` before a negative one.
     pub fn put_number(&mut self, n: i64) -> Result<(), WriteFault>
         requires { IsOpen self.old }
-        ensures { PutOn K.room K.taken K.faults self.old self.new (signed_decimal n) result }
+        ensures { PutOn K.room K.taken K.faults K.is_strict self.old self.new
+            (signed_decimal n) result }
     {
         let mut digits = itoa::Buffer::new();
         self.put(digits.format(n).as_bytes())
@@ -94,7 +95,7 @@ impl<'a, K: Sink> Out<'a, K> {
     /// Puts these pieces, one after another.
     pub fn put_pieces(&mut self, pieces: &[Piece<'_>]) -> Result<(), WriteFault>
         requires { IsOpen self.old }
-        ensures { PutOn K.room K.taken K.faults self.old self.new
+        ensures { PutOn K.room K.taken K.faults K.is_strict self.old self.new
             (flat_map piece_text pieces.now) result }
     {
         for piece in pieces {
@@ -106,7 +107,8 @@ impl<'a, K: Sink> Out<'a, K> {
     /// Puts one piece.
     fn put_piece(&mut self, piece: Piece<'_>) -> Result<(), WriteFault>
         requires { IsOpen self.old }
-        ensures { PutOn K.room K.taken K.faults self.old self.new (piece_text piece.entry) result }
+        ensures { PutOn K.room K.taken K.faults K.is_strict self.old self.new
+            (piece_text piece.entry) result }
     {
         match piece {
             Piece::Text(bytes) => self.put(bytes),
@@ -117,7 +119,7 @@ impl<'a, K: Sink> Out<'a, K> {
     /// Leaves space for a byte at least.
     fn make_space(&mut self) -> Result<(), WriteFault>
         requires { IsOpen self.old }
-        ensures put { PutOn K.room K.taken K.faults self.old self.new [] result }
+        ensures put { PutOn K.room K.taken K.faults K.is_strict self.old self.new [] result }
         ensures space { OnOk result (length self.new.waiting < 4096) }
     {
         if self.waiting.is_full() {
@@ -130,7 +132,11 @@ impl<'a, K: Sink> Out<'a, K> {
     /// Writes what waits to the sink.
     fn flush(&mut self) -> Result<(), WriteFault>
         requires { IsOpen self.old }
-        ensures put { PutOn K.room K.taken K.faults self.old self.new [] result }
+        ensures same { sink_of self.new ≡ sink_of self.old }
+        ensures wrote { Wrote (sink_view K.room K.taken K.faults K.is_strict self.old.sink.now)
+            (sink_view K.room K.taken K.faults K.is_strict self.new.sink.now)
+            self.old.waiting result }
+        ensures failed { has_failed self.new ≡ is_err result }
         ensures empty { OnOk result (self.new.waiting ≡ []) }
     {
         match write_all(self.sink, self.waiting.as_slice()) {
@@ -148,8 +154,9 @@ impl<'a, K: Sink> Out<'a, K> {
     /// Ends the output: after `Ok` the sink has taken all that was put.
     pub fn finish(self) -> Result<(), WriteFault>
         requires { IsOpen self }
-        ensures { Wrote (sink_view K.room K.taken K.faults self.entry.sink.now)
-            (sink_view K.room K.taken K.faults self.exit.0.now) self.entry.waiting result }
+        ensures { Wrote (sink_view K.room K.taken K.faults K.is_strict self.entry.sink.now)
+            (sink_view K.room K.taken K.faults K.is_strict self.exit.0.now)
+            self.entry.waiting result }
     {
         let Out {
             sink,

@@ -1,6 +1,6 @@
 //! A source and a sink in memory, which fail at the calls that they are told to.
 
-ghost use Rattle.std.specs.Prelude.{◌≡◌, ℕ, ◌+◌, ◌-◌, ◌<◌, ◌≤◌, ◌||◌, None, Some, List, [], ◌++◌, length, take, drop, min, nat_le, vec_len, vec_capacity, is_err, IfOk, OnOk, OnErr, refl};
+ghost use Rattle.std.specs.Prelude.{◌≡◌, ℕ, ◌+◌, ◌-◌, ◌<◌, ◌≤◌, ◌||◌, None, Some, List, [], ◌++◌, length, take, drop, min, nat_le, vec_len, vec_capacity, true, is_err, IsTrue, IfOk, OnOk, OnErr, refl};
 ghost use Rattle.port_io.specs.Faults.{HasCause, CountsFaults, next_count};
 ghost use Rattle.port_io.specs.Bytes.{Reads, Took, Writes};
 ghost use Rattle.port_io.specs.MemoryPorts.{MemSourceState, MemSinkState, is_listed};
@@ -151,11 +151,14 @@ impl Source for MemSource {
 
     ghost faults = { λ s. s.faults };
 
+    ghost is_strict = { true };
+
     fn read(&mut self, buf: &mut [u8]) -> Result<usize, Failed>
         requires { 0 < length buf.old }
         ensures bound { IfOk result (λ n. n ≤ length buf.new) }
         ensures bytes { Reads (Some self.old.left) (Some self.new.left) result buf.new }
         ensures cause { HasCause self.old.faults self.new.faults result }
+        ensures strict { IsTrue true → OnOk result (self.new.faults ≡ self.old.faults) }
 
         // It fails exactly at the listed calls, and gives all that fits the chunk and `buf`.
         ensures listed { is_err result ≡ is_listed self.old.fails self.new.calls }
@@ -246,6 +249,8 @@ impl Sink for MemSink {
 
     ghost faults = { λ s. s.faults };
 
+    ghost is_strict = { true };
+
     ghost nothing = { λ s. Took-nothing s.bytes };
 
     fn write(&mut self, piece: &[u8]) -> Result<usize, Failed>
@@ -253,6 +258,7 @@ impl Sink for MemSink {
         ensures bound { IfOk result (λ n. (0 < n) × (n ≤ length piece.now)) }
         ensures bytes { Writes None (Some self.old.bytes) (Some self.new.bytes) result piece.now }
         ensures cause { HasCause self.old.faults self.new.faults result }
+        ensures strict { IsTrue true → OnOk result (self.new.faults ≡ self.old.faults) }
 
         // It fails exactly at the listed calls and where its room is full, and takes all that
         // fits the chunk and the room.

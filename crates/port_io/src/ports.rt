@@ -1,6 +1,6 @@
 //! The two traits, and the error of their calls.
 
-ghost use Rattle.std.specs.Prelude.{◌≡◌, ℕ, ◌<◌, ◌≤◌, List, [], Option, length, IfOk};
+ghost use Rattle.std.specs.Prelude.{◌≡◌, ℕ, ◌<◌, ◌≤◌, Bool, List, [], Option, length, IfOk, OnOk, IsTrue};
 ghost use Rattle.port_io.specs.Faults.{HasCause};
 ghost use Rattle.port_io.specs.Bytes.{Reads, Took, Writes};
 
@@ -19,6 +19,9 @@ pub trait Source {
     /// How many faults the source counted.
     ghost faults: { Self → ℕ };
 
+    /// Whether the count stays in each call that doesn't fail.
+    ghost is_strict: { Bool };
+
     /// Reads some of the bytes left into the front of `buf`, and says how many: at least one,
     /// except at the end. It fails only where the count of faults rose in this call, and what
     /// is left is then unchanged.
@@ -26,7 +29,8 @@ pub trait Source {
         requires { 0 < length buf.old }
         ensures bound { IfOk result (λ n. n ≤ length buf.new) }
         ensures bytes { Reads (left self.old) (left self.new) result buf.new }
-        ensures cause { HasCause (faults self.old) (faults self.new) result };
+        ensures cause { HasCause (faults self.old) (faults self.new) result }
+        ensures strict { IsTrue is_strict → OnOk result (faults self.new ≡ faults self.old) };
 }
 
 /// Where bytes go.
@@ -45,6 +49,9 @@ pub trait Sink {
     /// How many faults the sink counted.
     ghost faults: { Self → ℕ };
 
+    /// Whether the count stays in each call that doesn't fail.
+    ghost is_strict: { Bool };
+
     /// Takes some of the front of `piece`, at least one byte, and says how many. It fails only
     /// where the count of faults rose in this call, and what was taken is then unchanged.
     fn write(&mut self, piece: &[u8]) -> Result<usize, Failed>
@@ -52,7 +59,8 @@ pub trait Sink {
         ensures bound { IfOk result (λ n. (0 < n) × (n ≤ length piece.now)) }
         ensures bytes { Writes (room self.old) (taken self.old) (taken self.new) result piece.now }
         ensures room { room self.new ≡ room self.old }
-        ensures cause { HasCause (faults self.old) (faults self.new) result };
+        ensures cause { HasCause (faults self.old) (faults self.new) result }
+        ensures strict { IsTrue is_strict → OnOk result (faults self.new ≡ faults self.old) };
 
     /// To take nothing changes nothing: what a sink tells fits its room.
     ghost nothing: { (s : Self) → Took (room s) (taken s) (taken s) [] };

@@ -1,6 +1,6 @@
 //! A source and a sink in memory that never fail.
 
-ghost use Rattle.std.specs.Prelude.{◌≡◌, ℕ, ◌+◌, ◌≤◌, Option, None, Some, List, [], length, MatchOption, vec_len, vec_capacity, false, IfOk, if◌then◌else◌};
+ghost use Rattle.std.specs.Prelude.{◌≡◌, ℕ, ◌+◌, ◌≤◌, Option, None, Some, List, [], length, MatchOption, vec_len, vec_capacity, true, false, IfOk, if◌then◌else◌};
 ghost use Rattle.port_io.specs.Bytes.{told};
 ghost use Rattle.port_io.specs.MemoryPorts.{SureSinkState, sure_taken};
 ghost use Rattle.port_io.specs.SinkLaws.{sure-nothing};
@@ -38,6 +38,8 @@ impl Source for SureSource {
     ghost left = { λ s. Some s };
 
     ghost faults = { λ _. 0 };
+
+    ghost is_strict = { true };
 
     fn read(&mut self, buf: &mut [u8]) -> Result<usize, Failed> {
         let most = buf.len();
@@ -99,6 +101,8 @@ impl Sink for SureSink {
     ghost taken = { sure_taken };
 
     ghost faults = { λ _. 0 };
+
+    ghost is_strict = { true };
 
     ghost nothing = { sure-nothing };
 

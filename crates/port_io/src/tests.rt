@@ -10,8 +10,8 @@ use std::test::Fail;
 
 /// Writes a line through an `Out`, from its making to its end.
 fn write_line<K: Sink>(sink: &mut K, number: i64) -> Result<(), WriteFault>
-    ensures { Wrote (sink_view K.room K.taken K.faults sink.old)
-        (sink_view K.room K.taken K.faults sink.new)
+    ensures { Wrote (sink_view K.room K.taken K.faults K.is_strict sink.old)
+        (sink_view K.room K.taken K.faults K.is_strict sink.new)
         (codes "the number is " ++ (signed_decimal number ++ codes "\n")) result }
 {
     let mut out = Out::new(sink);

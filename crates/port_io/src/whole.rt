@@ -1,9 +1,9 @@
 //! Reading an input to its end.
 
-ghost use Rattle.std.specs.Prelude.{◌≡◌, ◌-◌, ◌<◌, ◌≤◌, [], Some, length, vec_len, IfOk, OnOk, IfSome, IsErr, IsErrOf};
+ghost use Rattle.std.specs.Prelude.{◌≡◌, ◌-◌, ◌<◌, ◌≤◌, [], Some, length, vec_len, IfOk, OnOk, IfSome, IsErr, IsErrOf, IsTrue};
 ghost use Rattle.port_io.specs.Faults.{Rose};
 ghost use Rattle.port_io.specs.Bytes.{HasRest};
-ghost use Rattle.port_io.specs.Whole.{StopsWithin};
+ghost use Rattle.port_io.specs.Whole.{StopsWithin, UnlessReadFault};
 
 use crate::ports::Source;
 use std::alloc::Global;
@@ -49,6 +49,10 @@ pub fn read_up_to<S: Source>(
         → IfSome (S.left source.old) (λ xs. limit < length xs) }
     ensures read_fault { IsErrOf result ReadAll.ReadFault
         → Rose (S.faults source.old) (S.faults source.new) }
+
+    // Over a strict source no read failed where the answer isn't `ReadFault`.
+    ensures heard { IsTrue S.is_strict
+        → UnlessReadFault result (S.faults source.new ≡ S.faults source.old) }
 
     // It stops at the first of these.
     ensures stop { IfSome (S.left source.old) (λ xs. IfSome (S.left source.new)

@@ -1,7 +1,7 @@
 -- Whole square roots: they exist, they are the only ones, and how they grow.
 use Rattle.std.proofs.Common.{◌≡◌, ℕ, zero, suc, ◌+◌, ◌-◌, ◌*◌, ◌/◌, ◌%◌, ◌^◌, ◌<◌, ◌≤◌, Bool, true, false, cond, eqb, ltb, leb, refl, add-zero, arith, ⊎_elim}
 use Rattle.std.proofs.lemmas.Bool.{cases_lt}
-use Rattle.std.proofs.lemmas.Nat.{mul-lt, pow-add}
+use Rattle.std.proofs.lemmas.Nat.{mul-lt}
 use mir.Val.{bool_byte}
 use borrow.Author.Tests.{eqb-true, eqb-false, ltb-true, ltb-false}
 use lib.Dec.{leb→le, nleb→lt}
@@ -118,15 +118,7 @@ ceil_root-mono m n h =
     let least = (ceil_root-is n).at_least in
     ceil_root-le m (ceil_root n) (omega arith)
 
--- the root of a number below a power of four
-pub ceil_root-le-pow : (n k : ℕ) → n ≤ 2 ^ (2 * k) → ceil_root n ≤ 2 ^ k
-ceil_root-le-pow n k h =
-    let square : 2 ^ (k + k) ≡ 2 ^ k * 2 ^ k = pow-add 2 k k in
-    let same : 2 * k ≡ k + k = omega arith in
-    ceil_root-le n (2 ^ k) (rw (← square) (rw same at h))
-
 -- ---- both
-
 -- the root rounded down is at most the one rounded up
 pub floor_root-le-ceil_root : (m : ℕ) → floor_root m ≤ ceil_root m
 floor_root-le-ceil_root m =

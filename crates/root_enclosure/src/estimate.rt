@@ -2,8 +2,9 @@
 
 ghost use Rattle.std.specs.Prelude.{◌^◌, ◌<◌};
 
-// The reciprocal root between i/256 and (i + 1)/256 is about a straight line, for i from 64 on. The first quarter of each
-// table serves the number 0 alone. The tables are statics, since a constant would be copied at each call.
+// The reciprocal root between i/256 and (i + 1)/256 is about a straight line, for i from 64 on. The
+// first quarter of each table serves the number 0 alone. The tables are statics, since a constant
+// would be copied at each call.
 
 /// Where line i starts, times 2^31.
 static LINE_STARTS: [u32; 256] = [
@@ -58,9 +59,10 @@ static LINE_FALLS: [u32; 256] = [
 
 /// An estimate of the root of m, rounded down: the root or one above it, for `m < 2^126`.
 ///
-/// X is m times the even power of 2 that puts it between 1/4 and 1. Of its reciprocal root y the tables give the first 16
-/// binary digits, and `y (3 - X y^2) / 2` twice as many. The root s of X is then X y, and what s^2 leaves of X, times y / 2,
-/// gives the other half of its digits. No line below loses what the digits of the root need, and none is proved to.
+/// X is m times the even power of 2 that puts it between 1/4 and 1. Of its reciprocal root y the
+/// tables give the first 16 binary digits, and `y (3 - X y^2) / 2` twice as many. The root s of X
+/// is then X y, and what s^2 leaves of X, times y / 2, gives the other half of its digits. No line
+/// below loses what the digits of the root need, and none is proved to.
 pub fn estimate(m: u128) -> u64
     ensures { result < 2 ^ 63 }
 {
@@ -74,7 +76,8 @@ pub fn estimate(m: u128) -> u64
     let zeros = (first | 1).leading_zeros() & 62;
     let root_shift = (zeros / 2 + skipped).wrapping_sub(1) & 63;
 
-    // X times 2^64, y times 2^31, and then times 2^62, of which the constant takes a little more than an error of rounding.
+    // X times 2^64, y times 2^31, and then times 2^62, of which the constant takes a little more
+    // than an error of rounding.
     let x = ((((first as u128) << 64 | second as u128) << zeros) >> 64) as u64;
     let line = (x >> 56) as usize;
     let fall = (LINE_FALLS[line] as u64 * ((x >> 40) & 0xFFFF)) >> 8;

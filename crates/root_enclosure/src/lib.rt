@@ -1,7 +1,8 @@
 //! Whole square roots of 128-bit numbers, rounded down and rounded up.
 //!
-//! Both calls make one estimate, by multiplications alone, and test it. An estimate that is neither the root nor one above
-//! it costs a search and never a wrong answer, so nothing is proved of the estimate but its size.
+//! Both calls make one estimate, by multiplications alone, and test it. An estimate that is neither
+//! the root nor one above it costs a search and never a wrong answer, so nothing is proved of the
+//! estimate but its size.
 #![tactic(auto)]
 
 ghost use Rattle.std.specs.Prelude.{◌≡◌, ℕ, ◌+◌, ◌*◌, ◌/◌, ◌^◌, ◌<◌, ◌≤◌};
@@ -13,7 +14,8 @@ mod tests;
 
 use estimate::estimate;
 
-/// The root of m, rounded down: the f with `f^2 <= m < (f + 1)^2`. `m < 2^126`, and the root is below 2^63.
+/// The root of m, rounded down: the f with `f^2 <= m < (f + 1)^2`. `m < 2^126`, and the root is
+/// below 2^63.
 pub fn floor_root(m: u128) -> u64
     requires { m < 2 ^ 126 }
     ensures value { result ≡ floor_root m }
@@ -24,7 +26,8 @@ pub fn floor_root(m: u128) -> u64
     root
 }
 
-/// The root of m, rounded up: the least c with `c^2 >= m`. `m < 2^126`, and the root is at most 2^63.
+/// The root of m, rounded up: the least c with `c^2 >= m`. `m < 2^126`, and
+/// the root is at most 2^63.
 pub fn ceil_root(m: u128) -> u64
     requires { m < 2 ^ 126 }
     ensures value { result ≡ ceil_root m }
@@ -47,7 +50,8 @@ pub fn each_root_is_the_only_one()
     ensures ceil { (m c : ℕ) → IsCeilRoot m c → c ≡ ceil_root m }
 {}
 
-/// A root in units of which 65536 make one, divided by 65536 and rounded the same way, is the root in whole units.
+/// A root in units of which 65536 make one, divided by 65536 and rounded the same way, is the root
+/// in whole units.
 pub fn a_root_in_finer_units_gives_the_root()
     ensures floor { (m : ℕ) → floor_root (m * 2 ^ 32) / 65536 ≡ floor_root m }
     ensures ceil { (m : ℕ) → (ceil_root (m * 2 ^ 32) + 65535) / 65536 ≡ ceil_root m }

@@ -1,4 +1,5 @@
 mod FinishedMarks
+mod WorkedMarks
 mod SplitNodes
 mod Remarking
 mod EndingLemmas

@@ -18,8 +18,8 @@ use objectives::cost_of;
 use pool_core::{Closed, Job, Stop, cost_in};
 use site_model::{Instance, Site};
 
-/// The answer of a search that ended: each leaf gets its finished mark, the bound is the least of these, and the word is the one that they
-/// call for.
+/// The answer of a search that ended: each leaf gets its finished mark, the bound is the least of
+/// these, and the word is the one that they call for.
 pub fn finish(job: Job, closed: Closed) -> (Head, NodeList)
     requires { IsFinished job closed.pool closed.best }
     ensures answer { Finishes job closed.pool closed.best result.0 result.1 }
@@ -71,7 +71,7 @@ fn finish_node(job: &Job, least: Option<i64>, nodes: &mut NodeList, i: usize) ->
 }
 
 /// The finished mark of a leaf of the job's instance, for the least upper cost.
-fn mark_for(job: &Job, least: Option<i64>, square: Square) -> Mark
+pub(crate) fn mark_for(job: &Job, least: Option<i64>, square: Square) -> Mark
     ensures value { result ≡ marks.leaf_mark job.now.instance job.now.gap least square }
     ensures leaf { marks.is_split result ≡ false }
     ensures range { IsMark result }
@@ -79,8 +79,9 @@ fn mark_for(job: &Job, least: Option<i64>, square: Square) -> Mark
     leaf_mark(&job.instance, job.gap, least, square)
 }
 
-/// The head of the answer to a job, by the best site, the tally of the marks, the stop and the number of leases.
-fn head_of(
+/// The head of the answer to a job, by the best site, the tally of the marks, the stop and the
+/// number of leases.
+pub(crate) fn head_of(
     job: Job,
     best: &Option<(Site, i64)>,
     tally: &Tally,

@@ -1,5 +1,5 @@
 -- The starting square, and that it holds each point that a permitted polygon holds.
-use Rattle.std.proofs.Common.{◌≡◌, ℕ, ◌+◌, ◌-◌, ◌*◌, ◌/◌, ◌^◌, ◌<◌, ◌≤◌, max, List, [], ◌∷◌, length, map, All, Bool, true, false, ◌&&◌, ◌||◌, ℤ, pos, ◌+ℤ◌, ◌-ℤ◌, ◌*ℤ◌, ◌≤ℤ◌, ◌<ℤ◌, unsigned_abs, refl, sym, ap, ◌∙◌, subst, ◌⊎◌, inl, inr, ⊎_elim, arith, length-append, lit≤}
+use Rattle.std.proofs.Common.{◌≡◌, ℕ, ◌+◌, ◌-◌, ◌*◌, ◌/◌, ◌^◌, ◌<◌, ◌≤◌, max, List, [], ◌∷◌, length, map, All, Bool, true, false, ◌||◌, ℤ, pos, ◌+ℤ◌, ◌-ℤ◌, ◌*ℤ◌, ◌≤ℤ◌, ◌<ℤ◌, unsigned_abs, refl, sym, ap, ◌∙◌, subst, ◌⊎◌, inl, inr, ⊎_elim, arith, length-append, lit≤}
 use Rattle.std.specs.List.{list_any}
 use Rattle.std.specs.Float.Ieee.{size}
 use Rattle.std.specs.Int.Count.{count_leading_zeros}
@@ -116,6 +116,7 @@ later us vs ps p h = record {
       );
 }
 
+-- the first polygon, where it covers the point
 first : (vs : List Place) (ps : List (List Place)) (p : Point) → covers vs p ≡ true → IsPolygon vs → Holder (vs ∷ ps) vs p
 first vs ps p covered polygon = record {
   covered = covered;
@@ -127,6 +128,7 @@ either : (a b : Bool) → (a || b) ≡ true → (a ≡ true) ⊎ (b ≡ true)
 either true b e = inl refl
 either false b e = inr e
 
+-- where some polygon covers the point, there is one that holds it
 holder : (ps : List (List Place)) (p : Point) → All IsPolygon ps → list_any (λ vs. covers vs p) ps ≡ true → (vs : List Place) × Holder ps vs p
 holder [] p polygons none = absurd (false≢true none)
 holder (vs ∷ ps) p polygons some =
@@ -135,6 +137,7 @@ holder (vs ∷ ps) p polygons some =
     (λ there. let h = holder ps p (All-tail IsPolygon vs ps polygons) there in (h.0, later vs h.0 ps p h.1))
     (either (covers vs p) (list_any (λ vs. covers vs p) ps) some)
 
+-- the least of all vertices is at most that of one polygon's
 least_of_all : (h : Place → ℤ) (ps : List (List Place)) (vs : List Place) (p : Point) → Holder ps vs p → (least (map h (vertices ps))) ≤ℤ (least (map h vs))
 least_of_all h ps vs p holder =
     let few = holder.polygon.few in
@@ -143,6 +146,7 @@ least_of_all h ps vs p holder =
     let at = holder.part k within in
     subst (λ v. (least (map h (vertices ps))) ≤ℤ (h v)) at.2 (least-at h (vertices ps) at.0 at.1))
 
+-- and the greatest at least that
 greatest_of_all : (h : Place → ℤ) (ps : List (List Place)) (vs : List Place) (p : Point) → Holder ps vs p → (greatest (map h vs)) ≤ℤ (greatest (map h (vertices ps)))
 greatest_of_all h ps vs p holder =
     let few = holder.polygon.few in

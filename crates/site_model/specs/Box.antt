@@ -1,7 +1,8 @@
 -- Boxes round several places.
-use Rattle.std.specs.Prelude.{◌+◌, ◌/◌, ◌≤◌, max, ◌-ℤ◌, unsigned_abs}
+use Rattle.std.specs.Prelude.{◌+◌, ◌*◌, ◌/◌, ◌≤◌, max, ◌-ℤ◌, unsigned_abs}
 use Rattle.std.specs.Float.Ieee.{size}
 use Rattle.std.specs.Int.{int_max, int_min}
+use Rattle.siting_definitions.specs.declared.TheConstants.{COORDINATE_LIMIT, UNIT}
 use Rattle.siting_definitions.specs.Square.{Square, Extent}
 
 -- the least box round two boxes
@@ -16,10 +17,10 @@ box_round a b =
 
 -- no border is farther than the limit of coordinates, in grid units
 pub record IsBoxWithin (e : Extent) : Type 0 where
-  pub left : unsigned_abs e.x0 ≤ 65536000000
-  pub lower : unsigned_abs e.y0 ≤ 65536000000
-  pub right : unsigned_abs e.x1 ≤ 65536000000
-  pub upper : unsigned_abs e.y1 ≤ 65536000000
+  pub left : unsigned_abs e.x0 ≤ UNIT * COORDINATE_LIMIT
+  pub lower : unsigned_abs e.y0 ≤ UNIT * COORDINATE_LIMIT
+  pub right : unsigned_abs e.x1 ≤ UNIT * COORDINATE_LIMIT
+  pub upper : unsigned_abs e.y1 ≤ UNIT * COORDINATE_LIMIT
 
 -- the square with the box's corner, and with the least side of a power of two of lengths above the
 -- box's sides
@@ -29,5 +30,5 @@ square_of_box e =
       x = e.x0;
       y = e.y0;
       level = 16
-          + size (max (unsigned_abs (e.x1 -ℤ e.x0) / 65536) (unsigned_abs (e.y1 -ℤ e.y0) / 65536));
+          + size (max (unsigned_abs (e.x1 -ℤ e.x0) / UNIT) (unsigned_abs (e.y1 -ℤ e.y0) / UNIT));
     }

@@ -5,6 +5,7 @@ use Rattle.siting_definitions.specs.Instance.{Instance, IsInstance, weight}
 use Rattle.siting_definitions.specs.Sites.{root_of}
 use Rattle.site_model.specs.declared.instance.Instance.TheInside.{Inside}
 
+-- the instance whose parts the fields have
 abbrev pub instance_of : Inside → Instance
 instance_of a =
     record {

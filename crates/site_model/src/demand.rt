@@ -14,9 +14,11 @@ pub struct DemandPt {
     pub x: i32,
     /// The coordinate upwards, in lengths.
     pub y: i32,
-    /// The weight: above 0 the point attracts, below 0 it repels. At most 16,000,000 in size, and not 0.
+    /// The weight: above 0 the point attracts, below 0 it repels. At most
+    /// 16,000,000 in size, and not 0.
     pub w: i64,
-    /// The cutoff in lengths, 1 to 4,000,000, if the point has one: a distance above it counts as it.
+    /// The cutoff in lengths, 1 to 4,000,000, if the point has one: a
+    /// distance above it counts as it.
     pub cutoff: Option<i32>,
 }
 

@@ -8,7 +8,8 @@ ghost use Rattle.siting_definitions.specs.Instance.{IsInstance, IsPolygon, weigh
 ghost use Rattle.siting_definitions.specs.Permitted.{permits};
 ghost use Rattle.siting_definitions.specs.Sites.{root_of};
 ghost use Rattle.siting_definitions.specs.InstanceText.{has_cutoff};
-ghost use Rattle.siting_definitions.specs.declared.TheConstants.{POINT_LIMIT, WEIGHT_LIMIT, POLYGON_LIMIT};
+ghost use Rattle.siting_definitions.specs.declared.TheConstants.{POINT_LIMIT, WEIGHT_LIMIT};
+ghost use Rattle.siting_definitions.specs.declared.TheConstants.{POLYGON_LIMIT};
 
 use crate::demand::{DemandPt, weight_of};
 use crate::root::root_over;
@@ -19,8 +20,8 @@ use siting_definitions::Kind;
 use std::alloc::AllocError;
 use std::marker::Model;
 
-/// An instance: 1 to 4,096 demand points with weights of at most 16,000,000 together in size, 1 to 64 permitted polygons
-/// and up to 64 forbidden ones.
+/// An instance: 1 to 4,096 demand points with weights of at most 16,000,000 together in size, 1 to
+/// 64 permitted polygons and up to 64 forbidden ones.
 #[derive(Drop)]
 pub struct Instance {
     kind: Kind,
@@ -139,8 +140,8 @@ impl Instance {
         self.weight
     }
 
-    /// Whether a site may stand at `p`: some permitted polygon holds it, and no forbidden polygon holds it in its
-    /// interior.
+    /// Whether a site may stand at `p`: some permitted polygon holds it, and no forbidden polygon
+    /// holds it in its interior.
     pub fn permits(&self, p: Pt) -> bool
         ensures { result ≡ permits self.now (point_of p) }
     {
@@ -148,8 +149,8 @@ impl Instance {
             && !some_covers_inside(self.forbidden.as_slice(), p)
     }
 
-    /// The starting square: its corner is the least x and the least y of the permitted polygons, and its side is the
-    /// least power of two of whole lengths above their extent in x and in y.
+    /// The starting square: its corner is the least x and the least y of the permitted polygons,
+    /// and its side is the least power of two of whole lengths above their extent in x and in y.
     pub fn root(&self) -> Square
         ensures { result ≡ root_of self.now }
     {

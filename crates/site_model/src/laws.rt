@@ -13,8 +13,8 @@ pub fn the_root_holds_every_permitted_point()
         → IsInstance i → permits i p ≡ true → holds (root_of i) p ≡ true }
 {}
 
-/// The starting square's side is the least power of two of whole lengths above the extents of the permitted polygons in x
-/// and in y.
+/// The starting square's side is the least power of two of whole lengths above the extents of the
+/// permitted polygons in x and in y.
 pub fn the_root_has_the_least_side()
     ensures whole { (i : Instance) → 16 ≤ (root_of i).level }
     ensures above { (i : Instance)

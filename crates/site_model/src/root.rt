@@ -10,6 +10,7 @@ ghost use Rattle.site_model.specs.Box.{IsBoxWithin, box_round as least_box, squa
 use convex_region::Polygon;
 use dyadic_square::Square;
 use exact_geometry::Extent;
+use siting_definitions::UNIT;
 
 /// The starting square of an instance with these permitted polygons.
 pub(crate) fn root_over(permitted: &[Polygon]) -> Square
@@ -20,13 +21,14 @@ pub(crate) fn root_over(permitted: &[Polygon]) -> Square
     square_over(box_of_all(permitted))
 }
 
-/// The square whose corner is the box's, with the least side of a power of two of lengths above the box's sides.
+/// The square whose corner is the box's, with the least side of a power of two of lengths above the
+/// box's sides.
 fn square_over(bounds: Extent) -> Square
     requires { IsBoxWithin bounds }
     ensures { result ≡ square_of_box bounds }
 {
-    let width = bounds.x1.abs_diff(bounds.x0) / 65536;
-    let height = bounds.y1.abs_diff(bounds.y0) / 65536;
+    let width = bounds.x1.abs_diff(bounds.x0) / UNIT;
+    let height = bounds.y1.abs_diff(bounds.y0) / UNIT;
     Square::of(bounds.x0, bounds.y0, 16 + binary_digits(width.max(height)))
 }
 

@@ -15,10 +15,11 @@ use candidate_sites::centre_site;
 use pool_core::{Closed, Job, Lease, LeaseAnswer, Pool, better_of, cost_in, judge};
 use site_model::Site;
 
-/// One worker: leases squares, offers the centre site of each, judges it and gives it back, until nothing is open or there is a stop.
+/// One worker: leases squares, offers the centre site of each, judges it and gives it back, until
+/// nothing is open or there is a stop.
 ///
-/// It always returns, within the leases that the budget leaves, and takes no memory. Of two sites that cost the same the one that came
-/// first stays, the start before all others.
+/// It always returns, within the leases that the budget leaves, and takes no memory. Of two sites
+/// that cost the same the one that came first stays, the start before all others.
 pub fn alone(job: &Job, pool: Pool) -> Closed
     requires { IsPoolOf job.now pool }
     ensures finished { IsFinished job.now result.pool result.best }
@@ -40,8 +41,8 @@ pub fn alone(job: &Job, pool: Pool) -> Closed
     }
 }
 
-/// Offers the centre site of a leased square, judges the square with the best site's cost, and gives it back. The best site, or the centre
-/// site where that costs less.
+/// Offers the centre site of a leased square, judges the square with the best site's cost, and
+/// gives it back. The best site, or the centre site where that costs less.
 fn work(job: &Job, pool: &mut Pool, lease: Lease, best: &Option<(Site, i64)>) -> Option<(Site, i64)>
     requires job { pool.old.job ≡ job.now }
     requires leased { Contains pool.old.leased lease }

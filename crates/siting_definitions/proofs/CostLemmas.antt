@@ -34,6 +34,7 @@ pub cross : (d : DemandPt) (p : Point) (m k g r : ℕ) → IsBelow d p m g → I
 cross d p m k g r low high = cross_either d.cutoff m k p.q g r (distance2 (place_of d) p) low.0 low.1 high
 
 -- ---- one term
+-- a term of positive weight grows with its radius
 attracted : (w : ℤ) (m k g r : ℕ) → down w ≡ 0 → k * g ≤ m * r → ((w *ℤ pos g) *ℤ pos k) ≤ℤ ((w *ℤ pos r) *ℤ pos m)
 attracted w m k g r none h =
     let e : up w * (k * g) ≤ up w * (m * r) = mul-le-mul_left (up w) h in
@@ -41,6 +42,7 @@ attracted w m k g r none h =
     let f' : down w * (m * r) ≡ 0 * (m * r) = ap (λ n. n * (m * r)) none in
     rw (mul_assoc_ℤ w (pos g) (pos k), mul_assoc_ℤ w (pos r) (pos m)) (omega (arith, ints, e, f, f'))
 
+-- a term of negative weight falls as its radius grows
 repelled : (w : ℤ) (m k g r : ℕ) → up w ≡ 0 → m * r ≤ k * g → ((w *ℤ pos g) *ℤ pos k) ≤ℤ ((w *ℤ pos r) *ℤ pos m)
 repelled w m k g r none h =
     let e : down w * (m * r) ≤ down w * (k * g) = mul-le-mul_left (down w) h in
@@ -53,6 +55,7 @@ term_by_sign (pos zero) m k g r attracting repelling = omega (arith, ints)
 term_by_sign (pos (suc n)) m k g r attracting repelling = attracted (pos (suc n)) m k g r refl (attracting (omega (arith, ints)))
 term_by_sign (negsuc n) m k g r attracting repelling = repelled (negsuc n) m k g r refl (repelling (omega (arith, ints)))
 
+-- a term with a low radius is at most the same term with a high one, across their scales
 pub term_low_high : (d : DemandPt) (p : Point) (m k g r : ℕ) → IsLowAt d p m g → IsHighAt d p k r → ((d.w *ℤ pos g) *ℤ pos k) ≤ℤ ((d.w *ℤ pos r) *ℤ pos m)
 term_low_high d p m k g r low high =
     term_by_sign d.w m k g r (λ up. cross d p m k g r (low.attracting up) (high.attracting up))
@@ -68,6 +71,7 @@ terms_low_high (d ∷ ds) p m k (g ∷ gs) [] low high = absurd high
 terms_low_high (d ∷ ds) p m k (g ∷ gs) (r ∷ rs) low high =
     (term_low_high d p m k g r low.0 high.0, terms_low_high ds p m k gs rs low.1 high.1)
 
+-- the total of low radii is at most that of high ones, across their scales
 pub total_low_high : (i : Instance) (p : Point) (m k : ℕ) (gs rs : List ℕ) → AreLow i.points p m gs → AreHigh i.points p k rs → (total_of i gs *ℤ pos k) ≤ℤ (total_of i rs *ℤ pos m)
 unfolding total_of
 total_low_high i p m k gs rs low high =
@@ -75,6 +79,7 @@ total_low_high i p m k gs rs low high =
     (total-mono i.kind _ _ (terms_low_high i.points p m k gs rs low high))
 
 -- ---- a bound from radii that are low at some scale, and a cost from radii that are high
+-- from a total at the scale m to one at the scale k
 bound_by : (b t u : ℤ) (m k q : ℕ) → 1 ≤ m → (b *ℤ pos (m * q)) ≤ℤ (pos 65536 *ℤ t) → (t *ℤ pos k) ≤ℤ (u *ℤ pos m) → (b *ℤ pos (k * q)) ≤ℤ (pos 65536 *ℤ u)
 bound_by b t u m k q one low across =
     let e : (b *ℤ pos (m * q * k)) ≤ℤ (pos 65536 *ℤ (t *ℤ pos k)) =
@@ -87,6 +92,7 @@ pub low_radii_bound : (i : Instance) (p : Point) (m : ℕ) (gs : List ℕ) (b : 
 unfolding CostAtLeast
 low_radii_bound i p m gs b one low at k rs k_one high = bound_by b _ _ m k p.q one at (total_low_high i p m k gs rs low high)
 
+-- the same with both orders turned round
 cost_by : (b t u : ℤ) (m k q : ℕ) → 1 ≤ m → (pos 65536 *ℤ u) ≤ℤ (b *ℤ pos (m * q)) → (t *ℤ pos m) ≤ℤ (u *ℤ pos k) → (pos 65536 *ℤ t) ≤ℤ (b *ℤ pos (k * q))
 cost_by b t u m k q one high across =
     let e : (pos 65536 *ℤ (u *ℤ pos k)) ≤ℤ (b *ℤ pos (m * q * k)) =
@@ -94,6 +100,7 @@ cost_by b t u m k q one high across =
     let g : (pos 65536 *ℤ (t *ℤ pos m)) ≤ℤ (b *ℤ pos (k * q * m)) = omega (arith, ints, e) in
     le_of_mul_le_ℤ _ _ m one (rw (mul_assoc_ℤ b (pos (k * q)) (pos m), mul_assoc_ℤ (pos 65536) t (pos m)) g)
 
+-- high radii at a scale m whose total, in the scale's units, is at most b
 pub high_radii_cost : (i : Instance) (p : Point) (m : ℕ) (rs : List ℕ) (b : ℤ) → 1 ≤ m → AreHigh i.points p m rs → (pos 65536 *ℤ total_of i rs) ≤ℤ (b *ℤ pos (m * p.q)) → CostAtMost i p b
 unfolding CostAtMost
 high_radii_cost i p m rs b one high at k gs k_one low = cost_by b _ _ m k p.q one at (total_low_high i p k m gs rs low high)

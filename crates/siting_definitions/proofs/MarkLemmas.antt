@@ -12,6 +12,7 @@ use Rattle.siting_definitions.specs.Marks.{reaches, leaf_mark, SplitFits, lesser
 use Rattle.siting_definitions.proofs.Integers.{int_min-assoc}
 
 -- ---- a leaf
+-- the four finished marks of a leaf, each where its case holds
 pub shut_leaf : (i : Instance) (gap : ℤ) (u : Option ℤ) (s : Square) → is_excluded i s ≡ true → leaf_mark i gap u s ≡ Shut
 unfolding leaf_mark
 shut_leaf i gap u s h = cond-true _ _ _ h
@@ -68,6 +69,7 @@ split_bound i gap u s (Floor b) h = absurd h
 split_bound i gap u s (Left b) h = absurd h
 
 -- ---- the lesser of two numbers that may be absent
+-- the lesser of three, taken in either order
 pub lesser-assoc : (a b c : Option ℤ) → lesser (lesser a b) c ≡ lesser a (lesser b c)
 lesser-assoc None b c = refl
 lesser-assoc (Some a) None c = refl

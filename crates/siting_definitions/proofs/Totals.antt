@@ -60,6 +60,7 @@ max-scaled a b [] k e = e
 max-scaled a b (z ∷ zs) k e = max-scaled (int_max a z) (int_max b (z *ℤ pos k)) zs k (ap (λ b. int_max b (z *ℤ pos k)) e ∙ max_scales a z k)
 
 -- ---- the laws
+-- the total keeps the order of its terms
 pub total-mono : (kind : Kind) (zs ws : List ℤ) → AreBelow zs ws → (total kind zs) ≤ℤ (total kind ws)
 total-mono Sum zs ws h = sum-mono (pos 0) (pos 0) zs ws (le_refl_ℤ (pos 0)) h
 total-mono Max [] [] h = le_refl_ℤ (pos 0)
@@ -67,6 +68,7 @@ total-mono Max [] (w ∷ ws) h = absurd h
 total-mono Max (z ∷ zs) [] h = absurd h
 total-mono Max (z ∷ zs) (w ∷ ws) h = max-mono z w zs ws h.0 h.1
 
+-- a factor of at least 0 of all terms is a factor of the total
 pub total-scaled : (kind : Kind) (zs : List ℤ) (k : ℕ) → total kind (map (λ z. z *ℤ pos k) zs) ≡ total kind zs *ℤ pos k
 total-scaled Sum zs k = sum-scaled (pos 0) (pos 0) zs k (same_in _ _ (omega (arith, ints)))
 total-scaled Max [] k = same_in _ _ (omega (arith, ints))
@@ -81,6 +83,7 @@ RiseBy (z ∷ zs) [] es = ⊥
 RiseBy (z ∷ zs) (w ∷ ws) [] = ⊥
 RiseBy (z ∷ zs) (w ∷ ws) (e ∷ es) = (w ≤ℤ (z +ℤ pos e)) × RiseBy zs ws es
 
+-- the sum of a list
 abbrev pub added : List ℕ → ℕ
 added [] = 0
 added (e ∷ es) = e + added es
@@ -94,6 +97,7 @@ max_drifts a b z w e f h k = omega (arith, ints, clamps)
 drift_on : (a b : ℤ) (e f g : ℕ) → b ≤ℤ (a +ℤ pos (e + f + g)) → b ≤ℤ (a +ℤ pos (e + (f + g)))
 drift_on a b e f g h = omega (arith, ints)
 
+-- a sum rises by at most what its terms rise by together
 sum-drift : (a b : ℤ) (e : ℕ) (zs ws : List ℤ) (es : List ℕ) → b ≤ℤ (a +ℤ pos e) → RiseBy zs ws es → (fold ◌+ℤ◌ b ws) ≤ℤ (fold ◌+ℤ◌ a zs +ℤ pos (e + added es))
 sum-drift a b e [] [] [] h k = omega (arith, ints)
 sum-drift a b e [] [] (f ∷ es) h k = absurd k
@@ -103,6 +107,7 @@ sum-drift a b e (z ∷ zs) (w ∷ ws) [] h k = absurd k
 sum-drift a b e (z ∷ zs) (w ∷ ws) (f ∷ es) h k =
     drift_on _ _ e f (added es) (sum-drift (a +ℤ z) (b +ℤ w) (e + f) zs ws es (sum_drifts a b z w e f h k.0) k.1)
 
+-- so does a greatest term
 max-drift : (a b : ℤ) (e : ℕ) (zs ws : List ℤ) (es : List ℕ) → b ≤ℤ (a +ℤ pos e) → RiseBy zs ws es → (fold int_max b ws) ≤ℤ (fold int_max a zs +ℤ pos (e + added es))
 max-drift a b e [] [] [] h k = omega (arith, ints)
 max-drift a b e [] [] (f ∷ es) h k = absurd k
@@ -112,6 +117,7 @@ max-drift a b e (z ∷ zs) (w ∷ ws) [] h k = absurd k
 max-drift a b e (z ∷ zs) (w ∷ ws) (f ∷ es) h k =
     drift_on _ _ e f (added es) (max-drift (int_max a z) (int_max b w) (e + f) zs ws es (max_drifts a b z w e f h k.0) k.1)
 
+-- the total rises by at most what its terms rise by together
 pub total-drift : (kind : Kind) (zs ws : List ℤ) (es : List ℕ) → RiseBy zs ws es → (total kind ws) ≤ℤ (total kind zs +ℤ pos (added es))
 total-drift Sum zs ws es h = let base : (pos 0) ≤ℤ (pos 0 +ℤ pos 0) = omega (arith, ints) in let all = sum-drift (pos 0) (pos 0) 0 zs ws es base h in omega (arith, ints, all)
 total-drift Max [] [] [] h = omega (arith, ints)

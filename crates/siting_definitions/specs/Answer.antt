@@ -1,11 +1,15 @@
 -- Answers, and when an answer is valid.
-use Rattle.std.specs.Prelude.{◌≡◌, ℕ, ◌+◌, ◌*◌, ◌^◌, ◌<◌, ◌≤◌, ◌==◌, ℤ, pos, ◌≤ℤ◌, unsigned_abs, Bool, true, false, if◌then◌else◌, not, is_some, List, All, Option, Some, None, option_map, MatchOption, FitsSigned, IsTrue, ⊤}
+use Rattle.std.specs.Prelude.{◌≡◌, ℕ, ◌+◌, ◌*◌, ◌^◌, ◌<◌, ◌≤◌, ◌==◌, ℤ, pos, ◌≤ℤ◌, unsigned_abs}
+use Rattle.std.specs.Prelude.{Bool, true, false, if◌then◌else◌, not, is_some, List, All, Option}
+use Rattle.std.specs.Prelude.{Some, None, option_map, MatchOption, FitsSigned, IsTrue, ⊤}
 use Rattle.std.specs.Int.{w64}
 use Rattle.siting_definitions.specs.declared.TheConstants.{GAP_LIMIT, BUDGET_LIMIT, POOL_LIMIT}
 use Rattle.siting_definitions.specs.declared.Mark.{Mark}
-use Rattle.siting_definitions.specs.declared.Mark.TheVariants.{Split, Shut, Bounded, Floor as FloorMark, Left}
+use Rattle.siting_definitions.specs.declared.Mark.TheVariants.{Split, Shut, Bounded}
+use Rattle.siting_definitions.specs.declared.Mark.TheVariants.{Floor as FloorMark, Left}
 use Rattle.siting_definitions.specs.declared.Word.{Word}
-use Rattle.siting_definitions.specs.declared.Word.TheVariants.{Solved, PoolFull, Budget, Floor, Empty}
+use Rattle.siting_definitions.specs.declared.Word.TheVariants.{Solved, PoolFull}
+use Rattle.siting_definitions.specs.declared.Word.TheVariants.{Budget, Floor, Empty}
 use Rattle.siting_definitions.specs.Point.{Pt, point_of}
 use Rattle.siting_definitions.specs.Instance.{Instance, IsInstance}
 use Rattle.siting_definitions.specs.Permitted.{permits}
@@ -20,6 +24,8 @@ pub record Best : Type 0 where
   pub lower : ℤ
   pub upper : ℤ
 
+-- what an answer says of its instance and of its search, without its tree; gap and bound in cost
+-- units
 pub record Head : Type 0 where
   pub instance : Instance
   pub gap : ℤ
@@ -44,6 +50,7 @@ upper_cost best = option_map (λ (b : Best). b.upper) best
 abbrev pub IsSite : Pt → Type 0
 IsSite z = (unsigned_abs z.x ≤ 2 ^ 38) × (unsigned_abs z.y ≤ 2 ^ 38)
 
+-- the ranges of a best site and of its two numbers
 pub record IsBest (b : Best) : Type 0 where
   pub site : IsSite b.site
   pub lower : FitsSigned w64 b.lower
@@ -82,6 +89,7 @@ pub record HeadFits (h : Head) : Type 0 where
   pub best : MatchOption h.best ⊤ (IsPriced h.instance)
   pub opening : MatchOption (opening_cost h.instance) ⊤ (IsAtMost (upper_cost h.best))
 
+-- whether the word is `solved`
 abbrev pub is_solved : Word → Bool
 is_solved Solved = true
 is_solved PoolFull = false
@@ -89,6 +97,7 @@ is_solved Budget = false
 is_solved Floor = false
 is_solved Empty = false
 
+-- whether the word is `floor`
 abbrev pub is_floored : Word → Bool
 is_floored Solved = false
 is_floored PoolFull = false
@@ -96,6 +105,7 @@ is_floored Budget = false
 is_floored Floor = true
 is_floored Empty = false
 
+-- whether the word is `empty`
 abbrev pub is_empty : Word → Bool
 is_empty Solved = false
 is_empty PoolFull = false
@@ -103,6 +113,7 @@ is_empty Budget = false
 is_empty Floor = false
 is_empty Empty = true
 
+-- whether the word says that the search was stopped: at its room, or at its budget
 abbrev pub is_stopped : Word → Bool
 is_stopped Solved = false
 is_stopped PoolFull = true
@@ -118,6 +129,8 @@ has_word word t =
     else if t.open_leaves == 0 then is_floored word
     else is_stopped word
 
+-- what the word asks of the counts: squares are open only where the room was used up, and then no
+-- three more had room; at a spent budget every lease was given
 abbrev pub WordCounts : Head → Tally → Word → Type 0
 WordCounts h t Solved = h.open_count ≡ 0
 WordCounts h t PoolFull =
@@ -140,6 +153,7 @@ pub record EndFits (h : Head) (t : Tally) : Type 0 where
   pub word : has_word h.word t ≡ true
   pub counts : CountsFit h t
 
+-- an answer whose numbers lie in their ranges, and whose head, tree, marks and end fit one another
 pub record IsValid (a : Answer) : Type 0 where
   pub ranges : IsHead a.head
   pub mark_ranges : All IsMark a.marks
@@ -149,6 +163,7 @@ pub record IsValid (a : Answer) : Type 0 where
       a.marks
   pub end_fits : EndFits a.head (tally_of a.marks)
 
+-- how many leases can have left no trace in the tree, by the word that the search ended with
 abbrev pub WorkFits : Head → Tally → ℕ → Word → Type 0
 WorkFits h t workers Solved = ⊤
 WorkFits h t workers PoolFull = h.leases + t.open_leaves ≤ 2 * t.nodes + workers
@@ -156,8 +171,9 @@ WorkFits h t workers Budget = h.leases + t.open_leaves + 1 ≤ 2 * t.nodes + wor
 WorkFits h t workers Floor = ⊤
 WorkFits h t workers Empty = ⊤
 
--- An answer that was stopped shows its work. Of a stop at the budget all leases but one less than
--- there are workers, and of a full pool all but as many as there are workers, gave a square its
--- mark or raised it. A square that isn't an open leaf takes two leases at most, and an open leaf one.
+-- An answer that was stopped shows its work. Of a stop at the budget all leases but one
+-- less than there are workers, and of a full pool all but as many as there are workers,
+-- gave a square its mark or raised it. A square that isn't an open leaf takes two leases at
+-- most, and an open leaf one.
 abbrev pub IsWorkedBy : Answer → ℕ → Type 0
 IsWorkedBy a workers = WorkFits a.head (tally_of a.marks) workers a.head.word

@@ -26,6 +26,7 @@ IsWithinGap gap None bound = ⊥
 IsWithinGap gap (Some best) None = ⊥
 IsWithinGap gap (Some best) (Some b) = (best.upper -ℤ b) ≤ℤ gap
 
+-- what a head says of its instance is true, and it says `solved` exactly where the gap is met
 pub record Claims (h : Head) : Type 0 where
   pub site : MatchOption h.best ⊤ (IsEnclosed h.instance)
   pub bound : MatchOption h.bound (IsNowhere h.instance) (IsBound h.instance)

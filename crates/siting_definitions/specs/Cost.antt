@@ -1,5 +1,7 @@
 -- The cost of a rational point, said without roots: by all scales and all lists of whole radii.
-use Rattle.std.specs.Prelude.{ℕ, ◌+◌, ◌*◌, ◌≤◌, ℤ, pos, ◌+ℤ◌, ◌-ℤ◌, ◌*ℤ◌, ◌≤ℤ◌, ◌<ℤ◌, unsigned_abs, List, [], ◌∷◌, fold, ◌⊎◌, MatchOption, ⊤}
+use Rattle.std.specs.Prelude.{ℕ, ◌+◌, ◌*◌, ◌≤◌, ℤ, pos, ◌+ℤ◌, ◌-ℤ◌, ◌*ℤ◌, ◌≤ℤ◌, ◌<ℤ◌}
+use Rattle.std.specs.Prelude.{unsigned_abs, List, [], ◌∷◌, fold, ◌⊎◌, MatchOption, ⊤}
+use Rattle.siting_definitions.specs.declared.TheConstants.{UNIT}
 use Rattle.siting_definitions.specs.declared.Kind.{Kind}
 use Rattle.siting_definitions.specs.declared.Kind.TheVariants.{Sum, Max}
 use Rattle.siting_definitions.specs.Integer.{square_of, greatest}
@@ -66,10 +68,10 @@ total_of i rs = total i.kind (terms i.points rs)
 unfoldable pub CostAtLeast : Instance → Point → ℤ → Type 0
 CostAtLeast i p b =
     (k : ℕ) (rs : List ℕ) → 1 ≤ k → AreHigh i.points p k rs
-    → (b *ℤ pos (k * p.q)) ≤ℤ (pos 65536 *ℤ total_of i rs)
+    → (b *ℤ pos (k * p.q)) ≤ℤ (pos UNIT *ℤ total_of i rs)
 
 -- b, in cost units, is at least the cost of p
 unfoldable pub CostAtMost : Instance → Point → ℤ → Type 0
 CostAtMost i p b =
     (k : ℕ) (rs : List ℕ) → 1 ≤ k → AreLow i.points p k rs
-    → (pos 65536 *ℤ total_of i rs) ≤ℤ (b *ℤ pos (k * p.q))
+    → (pos UNIT *ℤ total_of i rs) ≤ℤ (b *ℤ pos (k * p.q))

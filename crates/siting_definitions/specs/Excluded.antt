@@ -1,6 +1,7 @@
 -- Squares of which no point is permitted, by a test on corners.
 use Rattle.std.specs.Prelude.{pos, ◌*ℤ◌, int_lt, Bool, ◌||◌, List, map}
 use Rattle.std.specs.List.{list_all, list_any}
+use Rattle.siting_definitions.specs.declared.TheConstants.{UNIT}
 use Rattle.siting_definitions.specs.Integer.{least, greatest}
 use Rattle.siting_definitions.specs.Point.{Place, point_of, side}
 use Rattle.siting_definitions.specs.Polygon.{edges, covers_inside}
@@ -11,10 +12,10 @@ use Rattle.siting_definitions.specs.Square.{Square, Extent, extent_of, corners}
 unfoldable pub box_of : List Place → Extent
 box_of vs =
     record {
-      x0 = pos 65536 *ℤ least (map (λ (v : Place). v.x) vs);
-      y0 = pos 65536 *ℤ least (map (λ (v : Place). v.y) vs);
-      x1 = pos 65536 *ℤ greatest (map (λ (v : Place). v.x) vs);
-      y1 = pos 65536 *ℤ greatest (map (λ (v : Place). v.y) vs);
+      x0 = pos UNIT *ℤ least (map (λ (v : Place). v.x) vs);
+      y0 = pos UNIT *ℤ least (map (λ (v : Place). v.y) vs);
+      x1 = pos UNIT *ℤ greatest (map (λ (v : Place). v.x) vs);
+      y1 = pos UNIT *ℤ greatest (map (λ (v : Place). v.y) vs);
     }
 
 -- whether two boxes have no point in common
@@ -36,6 +37,7 @@ is_apart vs s =
 unfoldable pub encloses : List Place → Square → Bool
 encloses vs s = list_all (λ c. covers_inside vs (point_of c)) (corners s)
 
+-- whether each permitted polygon is apart from the square, or some forbidden one encloses it
 unfoldable pub is_excluded : Instance → Square → Bool
 is_excluded i s =
     list_all (λ vs. is_apart vs s) i.permitted || list_any (λ vs. encloses vs s) i.forbidden

@@ -7,5 +7,6 @@ line_text [] = 10 ∷ []
 line_text (field ∷ []) = field ++ 10 ∷ []
 line_text (field ∷ next ∷ fields) = field ++ 32 ∷ line_text (next ∷ fields)
 
+-- the bytes of lines, one after another
 abbrev pub text_of : List (List (List ℕ)) → List ℕ
 text_of lines = flat_map line_text lines

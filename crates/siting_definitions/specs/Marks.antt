@@ -1,5 +1,7 @@
 -- The marks of a finished tree.
-use Rattle.std.specs.Prelude.{◌≡◌, ℕ, ◌<◌, ◌==◌, ℤ, ◌+ℤ◌, ◌≤ℤ◌, ◌<ℤ◌, int_le, Bool, true, false, cond, if◌then◌else◌, List, [], ◌∷◌, Option, Some, None, length, count_by, ⊤}
+use Rattle.std.specs.Prelude.{◌≡◌, ℕ, ◌<◌, ◌==◌, ℤ, ◌+ℤ◌, ◌≤ℤ◌, ◌<ℤ◌, int_le}
+use Rattle.std.specs.Prelude.{Bool, true, false, cond, if◌then◌else◌, List}
+use Rattle.std.specs.Prelude.{[], ◌∷◌, Option, Some, None, length, count_by, ⊤}
 use Rattle.std.specs.Int.{int_min}
 use Rattle.siting_definitions.specs.declared.Mark.{Mark}
 use Rattle.siting_definitions.specs.declared.Mark.TheVariants.{Split, Shut, Bounded, Floor, Left}
@@ -48,6 +50,7 @@ leaf_mark i gap u s =
     else if s.level == 0 then Floor (fine_of i s)
     else Left (fine_of i s)
 
+-- the mark is a split, and the split was called for
 abbrev pub SplitFits : Instance → ℤ → Option ℤ → Square → Mark → Type 0
 SplitFits i gap u s (Split v) = IsCalledFor i gap u s v
 SplitFits i gap u s Shut = ⊥
@@ -60,6 +63,7 @@ abbrev pub MarkFits : Instance → ℤ → Option ℤ → TreeSquare → Mark �
 MarkFits i gap u t m =
     cond t.is_split (SplitFits i gap u t.square m) (m ≡ leaf_mark i gap u t.square)
 
+-- each mark fits its square, and there are as many marks as squares
 abbrev pub MarksFit : Instance → ℤ → Option ℤ → List TreeSquare → List Mark → Type 0
 MarksFit i gap u [] [] = ⊤
 MarksFit i gap u [] (m ∷ ms) = ⊥
@@ -89,6 +93,7 @@ abbrev pub least_of : List Mark → Option ℤ
 least_of [] = None
 least_of (m ∷ ms) = lesser (bound_of m) (least_of ms)
 
+-- whether the mark is a split
 abbrev pub is_split : Mark → Bool
 is_split (Split v) = true
 is_split Shut = false
@@ -96,6 +101,7 @@ is_split (Bounded b) = false
 is_split (Floor b) = false
 is_split (Left b) = false
 
+-- whether the mark is one of a leaf
 abbrev pub is_leaf : Mark → Bool
 is_leaf (Split v) = false
 is_leaf Shut = true
@@ -103,6 +109,7 @@ is_leaf (Bounded b) = true
 is_leaf (Floor b) = true
 is_leaf (Left b) = true
 
+-- whether the mark is one of a leaf that was left open
 abbrev pub is_open : Mark → Bool
 is_open (Split v) = false
 is_open Shut = false
@@ -110,6 +117,7 @@ is_open (Bounded b) = false
 is_open (Floor b) = false
 is_open (Left b) = true
 
+-- whether the mark is one of a leaf of level 0 that isn't settled
 abbrev pub is_floor : Mark → Bool
 is_floor (Split v) = false
 is_floor Shut = false
@@ -126,6 +134,7 @@ pub record Tally : Type 0 where
   pub floor_leaves : ℕ
   pub least : Option ℤ
 
+-- the counts of a list of marks, and the least bound of its leaves
 unfoldable pub tally_of : List Mark → Tally
 tally_of ms =
     record {

@@ -1,13 +1,14 @@
 -- Points of the plane, and the side of an edge on which a point lies.
 use Rattle.std.specs.Prelude.{ℕ, ◌≤◌, ℤ, pos, ◌-ℤ◌, ◌*ℤ◌}
 use Rattle.std.proofs.Common.{lit≤}
+use Rattle.siting_definitions.specs.declared.TheConstants.{UNIT}
 
 -- a point with whole coordinates, in lengths
 pub record Place : Type 0 where
   pub x : ℤ
   pub y : ℤ
 
--- a point with whole coordinates, in grid units, of which 65536 make a length
+-- a point with whole coordinates, in grid units, of which UNIT make a length
 pub record Pt : Type 0 where
   pub x : ℤ
   pub y : ℤ
@@ -21,11 +22,11 @@ pub record Point : Type 0 where
 
 -- a place as a grid point
 abbrev pub grid : Place → Pt
-grid v = record { x = pos 65536 *ℤ v.x; y = pos 65536 *ℤ v.y }
+grid v = record { x = pos UNIT *ℤ v.x; y = pos UNIT *ℤ v.y }
 
 -- a grid point as a rational point
 abbrev pub point_of : Pt → Point
-point_of p = record { x = p.x; y = p.y; q = 65536; q_pos = lit≤ tt }
+point_of p = record { x = p.x; y = p.y; q = UNIT; q_pos = lit≤ tt }
 
 -- the side of p on the edge from s to t, times q: above 0 to the left of the edge, 0 on its line,
 -- below 0 to the right

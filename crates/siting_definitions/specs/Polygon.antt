@@ -1,11 +1,15 @@
 -- Polygons: lists of places, counter-clockwise. A polygon is closed.
-use Rattle.std.specs.Prelude.{◌≢◌, ℕ, ◌+◌, ◌<◌, ◌==◌, ℤ, pos, ◌+ℤ◌, ◌-ℤ◌, ◌*ℤ◌, ◌<ℤ◌, int_le, int_lt, Bool, if◌then◌else◌, List, ◌++◌, length, take, drop, reverse, map, fold, zip, slice_index_or}
+use Rattle.std.specs.Prelude.{◌≢◌, ℕ, ◌+◌, ◌<◌, ◌==◌, ℤ, pos, ◌+ℤ◌, ◌-ℤ◌, ◌*ℤ◌, ◌<ℤ◌}
+use Rattle.std.specs.Prelude.{int_le, int_lt, Bool, if◌then◌else◌, List, ◌++◌, length}
+use Rattle.std.specs.Prelude.{take, drop, reverse, map, fold, zip, slice_index_or}
 use Rattle.std.specs.List.{list_all}
 use Rattle.siting_definitions.specs.Point.{Place, Point, grid, point_of, side}
 
+-- the place (0, 0)
 abbrev pub origin : Place
 origin = record { x = pos 0; y = pos 0 }
 
+-- vertex i, from 0; the origin where there is none
 abbrev pub vertex : List Place → ℕ → Place
 vertex vs i = slice_index_or vs i origin
 

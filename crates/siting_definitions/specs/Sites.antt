@@ -1,6 +1,9 @@
 -- The root square, the opening site, the centre site of a square, and the gap asked.
-use Rattle.std.specs.Prelude.{ℕ, ◌+◌, ◌*◌, ◌/◌, max, nat_lt, ℤ, pos, ◌-ℤ◌, ◌*ℤ◌, int_le, unsigned_abs, Bool, if◌then◌else◌, ◌&&◌, List, [], ◌∷◌, ◌++◌, map, filter, flat_map, Option, Some, None, option_map}
+use Rattle.std.specs.Prelude.{ℕ, ◌+◌, ◌*◌, ◌/◌, max, nat_lt, ℤ, pos, ◌-ℤ◌, ◌*ℤ◌, int_le}
+use Rattle.std.specs.Prelude.{unsigned_abs, Bool, if◌then◌else◌, ◌&&◌, List, [], ◌∷◌}
+use Rattle.std.specs.Prelude.{◌++◌, map, filter, flat_map, Option, Some, None, option_map}
 use Rattle.std.specs.Float.Ieee.{size}
+use Rattle.siting_definitions.specs.declared.TheConstants.{UNIT}
 use Rattle.siting_definitions.specs.declared.GapRule.{GapRule}
 use Rattle.siting_definitions.specs.declared.GapRule.TheVariants.{Fixed, Ppm}
 use Rattle.siting_definitions.specs.Integer.{least, greatest}
@@ -29,8 +32,8 @@ unfoldable pub root_of : Instance → Square
 root_of i =
     let vs = vertices i.permitted in
     record {
-      x = pos 65536 *ℤ least (map (λ (v : Place). v.x) vs);
-      y = pos 65536 *ℤ least (map (λ (v : Place). v.y) vs);
+      x = pos UNIT *ℤ least (map (λ (v : Place). v.x) vs);
+      y = pos UNIT *ℤ least (map (λ (v : Place). v.y) vs);
       level = 16 + size (span vs);
     }
 
@@ -61,6 +64,7 @@ opening_cost i = option_map (upper_of i) (opening_of i)
 unfoldable pub has_centre : Instance → Square → Bool
 has_centre i s = nat_lt 0 s.level && permits i (point_of (centre_of s))
 
+-- the centre of the square, where a site may stand there
 abbrev pub centre_site_of : Instance → Square → Option Pt
 centre_site_of i s = if has_centre i s then Some (centre_of s) else None
 
@@ -68,9 +72,9 @@ centre_site_of i s = if has_centre i s then Some (centre_of s) else None
 abbrev pub centre_cost : Instance → Square → Option ℤ
 centre_cost i s = option_map (upper_of i) (centre_site_of i s)
 
--- the gap asked, from the opening's upper cost: without an opening, 65536 cost units unless the gap
--- is fixed
+-- the gap asked, from the opening's upper cost: without an opening, UNIT cost
+-- units unless the gap is fixed
 abbrev pub gap_of : GapRule → Option ℤ → ℤ
 gap_of (Fixed gap) opening = gap
-gap_of (Ppm ppm) None = pos 65536
+gap_of (Ppm ppm) None = pos UNIT
 gap_of (Ppm ppm) (Some u) = pos (unsigned_abs u * ppm / 1000000)

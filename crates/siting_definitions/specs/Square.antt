@@ -1,5 +1,7 @@
 -- Dyadic squares of the grid, and which rational points they hold.
-use Rattle.std.specs.Prelude.{◌≡◌, ℕ, ◌-◌, ◌%◌, ◌^◌, ◌≤◌, ◌==◌, nat_le, ℤ, pos, ◌+ℤ◌, ◌*ℤ◌, ◌≤ℤ◌, int_le, int_lt, Bool, if◌then◌else◌, ◌&&◌, List, [], ◌∷◌, count_by}
+use Rattle.std.specs.Prelude.{◌≡◌, ℕ, ◌-◌, ◌%◌, ◌^◌, ◌≤◌, ◌==◌, nat_le, ℤ, pos, ◌+ℤ◌, ◌*ℤ◌, ◌≤ℤ◌}
+use Rattle.std.specs.Prelude.{int_le, int_lt, Bool, if◌then◌else◌, ◌&&◌, List, [], ◌∷◌, count_by}
+use Rattle.siting_definitions.specs.declared.TheConstants.{UNIT}
 use Rattle.siting_definitions.specs.Point.{Pt, Point}
 
 -- the square with the lower left corner (x, y), in grid units, and a side of 2 ^ level grid units
@@ -8,6 +10,7 @@ pub record Square : Type 0 where
   pub y : ℤ
   pub level : ℕ
 
+-- a square that lies within 2 ^ 38 grid units of both axes
 pub record IsSquare (s : Square) : Type 0 where
   pub level : s.level ≤ 37
   pub left : pos 0 ≤ℤ (s.x +ℤ pos (2 ^ 38))
@@ -31,12 +34,12 @@ extent_of s =
 -- units
 abbrev pub spans : ℤ → ℕ → ℕ → ℤ → Bool
 spans low len q v =
-    int_le (pos q *ℤ low) (pos 65536 *ℤ v) && int_lt (pos 65536 *ℤ v) (pos q *ℤ (low +ℤ pos len))
+    int_le (pos q *ℤ low) (pos UNIT *ℤ v) && int_lt (pos UNIT *ℤ v) (pos q *ℤ (low +ℤ pos len))
 
 -- the same, with low + len
 abbrev pub spans_closed : ℤ → ℕ → ℕ → ℤ → Bool
 spans_closed low len q v =
-    int_le (pos q *ℤ low) (pos 65536 *ℤ v) && int_le (pos 65536 *ℤ v) (pos q *ℤ (low +ℤ pos len))
+    int_le (pos q *ℤ low) (pos UNIT *ℤ v) && int_le (pos UNIT *ℤ v) (pos q *ℤ (low +ℤ pos len))
 
 -- whether the half-open square holds p: it has its left and its lower border, and neither of the
 -- others
@@ -57,6 +60,7 @@ Tiles list s =
 abbrev pub is_right : ℕ → Bool
 is_right i = i % 2 == 1
 
+-- whether corner or quarter i is an upper one
 abbrev pub is_upper : ℕ → Bool
 is_upper i = nat_le 2 i
 
@@ -72,6 +76,7 @@ corner_of s i =
       y = s.y +ℤ pos (far_by (is_upper i) (2 ^ s.level));
     }
 
+-- the four corners, in order
 abbrev pub corners : Square → List Pt
 corners s = corner_of s 0 ∷ corner_of s 1 ∷ corner_of s 2 ∷ corner_of s 3 ∷ []
 
@@ -84,6 +89,7 @@ quarter_of s i =
       level = s.level - 1;
     }
 
+-- the four quarters, in order
 abbrev pub quarters : Square → List Square
 quarters s = quarter_of s 0 ∷ quarter_of s 1 ∷ quarter_of s 2 ∷ quarter_of s 3 ∷ []
 

@@ -1,5 +1,6 @@
 -- Trees of squares. A tree is a shape, and its squares are computed: no tree has a wrong square.
-use Rattle.std.specs.Prelude.{ℕ, ◌-◌, ◌<◌, Bool, true, false, not, List, [], ◌∷◌, ◌++◌, map, filter, ⊤}
+use Rattle.std.specs.Prelude.{ℕ, ◌-◌, ◌<◌, Bool, true, false, not}
+use Rattle.std.specs.Prelude.{List, [], ◌∷◌, ◌++◌, map, filter, ⊤}
 use Rattle.siting_definitions.specs.Square.{Square, quarter_of}
 
 -- a square alone, or one with a tree for each of its quarters 0 to 3

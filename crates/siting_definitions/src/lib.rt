@@ -1,8 +1,12 @@
 //! The definitions of siting: instances, costs, bounds, squares, trees, answers and their texts.
 //!
-//! The definitions are in `specs/`, and no function stands here. What is declared here are the limits and the
-//! enums that they name; the crate that each enum belongs to passes it on.
+//! The definitions are in `specs/`, and no function stands here. What is declared here are the
+//! limits and the enums that they name; the crate that each enum belongs to passes it on.
 #![tactic(auto)]
+
+/// How many grid units make a length, and how many cost units a weight of 1 at
+/// a distance of one length.
+pub const UNIT: u64 = 65536;
 
 /// The greatest size of a coordinate, in lengths.
 pub const COORDINATE_LIMIT: u64 = 1000000;
@@ -52,7 +56,8 @@ pub enum GapRule {
 /// What became of a square of the tree. Each number is in cost units.
 #[derive(Clone, Copy, Debug, PartialEq, Eq)]
 pub enum Mark {
-    /// Split into its quarters, with the number of the incumbent that was seen then, if there was one.
+    /// Split into its quarters, with the number of the incumbent that was
+    /// seen then, if there was one.
     Split(Option<i64>),
     /// Excluded: no point of it is permitted.
     Shut,

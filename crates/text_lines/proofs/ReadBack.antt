@@ -73,24 +73,27 @@ fields_of-joined (field ∷ next ∷ fields) words =
     let parts = and_parts _ _ words in
     fields_then field (line_bytes (next ∷ fields)) parts.0 ∙ ap (λ fs. field ∷ fs) (fields_of-joined (next ∷ fields) parts.1)
 
-plain_bytes : (bs : List ℕ) → list_all (λ c. ltb 32 c) bs ≡ true → is_plain bs ≡ true
-plain_bytes [] above = refl
-plain_bytes (b ∷ bs) above =
-    let parts = and_parts _ _ above in
-    let high : 32 < b = ltb-true 32 b parts.0 in
-    and_from _ _ (lt-ltb 31 b (omega arith)) (plain_bytes bs parts.1)
+-- what holds of a space and of the bytes of words holds of the bytes of lines of words
+module _ (test : ℕ → Bool) (space : test 32 ≡ true) (above : (b : ℕ) → 32 < b → test b ≡ true) where
+  of_bytes : (bs : List ℕ) → list_all (λ c. ltb 32 c) bs ≡ true → list_all test bs ≡ true
+  of_bytes [] high = refl
+  of_bytes (b ∷ bs) high = let parts = and_parts _ _ high in and_from _ _ (above b (ltb-true 32 b parts.0)) (of_bytes bs parts.1)
 
-plain_word : (field : List ℕ) → is_word field ≡ true → is_plain field ≡ true
-plain_word [] word = refl
-plain_word (b ∷ bs) word = plain_bytes (b ∷ bs) word
+  of_word : (field : List ℕ) → is_word field ≡ true → list_all test field ≡ true
+  of_word [] word = refl
+  of_word (b ∷ bs) word = of_bytes (b ∷ bs) word
 
+  pub of_line_bytes : (fields : List (List ℕ)) → are_words fields ≡ true → list_all test (line_bytes fields) ≡ true
+  of_line_bytes [] words = refl
+  of_line_bytes (field ∷ []) words = of_word field (and_parts _ _ words).0
+  of_line_bytes (field ∷ next ∷ fields) words =
+      let parts = and_parts _ _ words in
+      list_all-append test field (32 ∷ line_bytes (next ∷ fields))
+      ∙ and_from _ _ (of_word field parts.0) (and_from _ _ space (of_line_bytes (next ∷ fields) parts.1))
+
+-- a line of words is plain
 plain_joined : (fields : List (List ℕ)) → are_words fields ≡ true → is_plain (line_bytes fields) ≡ true
-plain_joined [] words = refl
-plain_joined (field ∷ []) words = plain_word field (and_parts _ _ words).0
-plain_joined (field ∷ next ∷ fields) words =
-    let parts = and_parts _ _ words in
-    list_all-append (λ b. ltb 31 b) field (32 ∷ line_bytes (next ∷ fields))
-    ∙ and_from _ _ (plain_word field parts.0) (plain_joined (next ∷ fields) parts.1)
+plain_joined fields words = of_line_bytes (λ b. ltb 31 b) refl (λ b high. lt-ltb 31 b (omega arith)) fields words
 
 -- the text of a line is its bytes and a line feed
 pub line_text-joined : (fields : List (List ℕ)) (rest : List ℕ) → line_text fields ++ rest ≡ line_bytes fields ++ 10 ∷ rest

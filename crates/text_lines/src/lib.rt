@@ -1,7 +1,7 @@
 //! Lines of bytes, the fields of a line, and the numbers and words that fields are.
 //!
-//! The readers go over a slice and answer a part of it with what is left; they copy nothing. Each answers exactly what a
-//! definition of `specs/` says of the bytes.
+//! The readers go over a slice and answer a part of it with what is left; they copy nothing. Each
+//! answers exactly what a definition of `specs/` says of the bytes.
 #![tactic(auto)]
 
 mod fields;

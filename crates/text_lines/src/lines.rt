@@ -7,8 +7,8 @@ use memchr::memchr;
 
 /// The first line of a text that isn't empty, and the bytes after it.
 ///
-/// A line ends at a line feed (byte 10) or at the end of the text. It is answered without the line feed and without one
-/// carriage return (byte 13) at its end.
+/// A line ends at a line feed (byte 10) or at the end of the text. It is answered without the line
+/// feed and without one carriage return (byte 13) at its end.
 pub fn next_line(bytes: &[u8]) -> (&[u8], &[u8])
     requires { 0 < length bytes.now }
     ensures first { lines_of bytes.now ≡ result.0.now ∷ lines_of result.1.now }

@@ -46,7 +46,8 @@ fn with_digit(value: u64, digit: u64) -> u64
     }
 }
 
-/// The number that a field of digits stands for, with `-` or `+` before them or neither, or none where the field isn't one.
+/// The number that a field of digits stands for, with `-` or `+` before them or neither, or none
+/// where the field isn't one.
 ///
 /// Leading zeros are accepted, and a size above 2^64 - 1 is answered as 2^64 - 1.
 pub fn number(field: &[u8]) -> Option<i128>

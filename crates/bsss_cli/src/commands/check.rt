@@ -1,6 +1,7 @@
 //! The command `check`.
 
 ghost use Rattle.bsss_cli.specs.Check as checks;
+ghost use Rattle.bsss_cli.specs.Ports.{source_ghosts, sink_ghosts};
 ghost use Rattle.bsss_cli.specs.Outcome.{Ran};
 
 use crate::output::{say, say_rejected};
@@ -11,7 +12,8 @@ use std::alloc::Global;
 
 /// Reads the text of an answer, and says whether it is that of a valid one.
 pub(crate) fn run_check<S: Source, K: Sink>(alloc: Global, source: &mut S, sink: &mut K) -> Status
-    ensures { Ran S.left S.faults K.room K.taken K.faults
+    ensures { Ran (source_ghosts S.left S.faults S.is_strict)
+        (sink_ghosts K.room K.taken K.faults K.is_strict)
         checks.check source.old source.new sink.old sink.new result }
 {
     match check(alloc, source) {

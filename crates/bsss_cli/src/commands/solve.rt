@@ -1,40 +1,34 @@
-//! The command `solve`, with one worker.
+//! The command `solve`.
 
-ghost use Rattle.std.specs.Prelude.{◌≡◌, ◌≤◌, true, IfOk, List, ℕ, Some, Ok, length};
-ghost use Rattle.search_answer.specs.Ending.{answer_of};
+ghost use Rattle.std.specs.Prelude.{◌≡◌, ◌≤◌, IfOk, MatchResult, Some, length};
+ghost use Rattle.siting_definitions.specs.Instance as Instances;
 ghost use Rattle.siting_definitions.specs.Instance.{IsInstance};
 ghost use Rattle.pool_core.specs.Job.{IsLawful};
-ghost use Rattle.instance_text.specs.Reading.{reading};
 ghost use Rattle.command_line.specs.Command.{IsSettings};
-ghost use Rattle.bsss_cli.specs.Solve as solving;
-ghost use Rattle.bsss_cli.specs.Solve.{built_solve, job_to, IsAnswerTo};
+ghost use Rattle.bsss_cli.specs.Solve.{solve, job_to};
+ghost use Rattle.bsss_cli.specs.Begun.{IsBegun, IsJob, IsTextOf};
+ghost use Rattle.bsss_cli.specs.Ports.{source_ghosts, sink_ghosts};
 ghost use Rattle.bsss_cli.specs.Outcome.{Ended, Ran};
 
 use crate::gap::gap_of;
 use crate::output::{say, say_answer, say_bad_instance};
 use crate::status::Status;
-use answer_model::Head;
 use candidate_sites::opening;
 use command_line::{NoMemory, Settings};
-use discard_log::NodeList;
 use instance_text::{InstanceError, read_instance};
 use pool_core::{Job, Pool};
 use port_io::{ReadAll, Sink, Source, read_up_to};
+use search_answer::{finish, finish_by_workers};
 use site_model::{Instance, Site};
-use site_workers::{alone, finish};
+use site_workers::{Gate, alone, team};
 use std::alloc::Global;
+use std::sync::Wait;
+use std::thread::Threads;
 
 /// How many bytes an instance text has at most.
 const INSTANCE_LIMIT: usize = 1_048_576;
 
-/// Whether a solve is built: with one worker.
-pub(crate) fn is_built(settings: Settings) -> bool
-    ensures { result ≡ solving.is_built settings }
-{
-    settings.workers == 1
-}
-
-/// Reads an instance, and writes an answer to it.
+/// Reads an instance, and writes an answer of one worker to it.
 pub(crate) fn run_solve<S: Source, K: Sink>(
     alloc: Global,
     settings: Settings,
@@ -42,68 +36,106 @@ pub(crate) fn run_solve<S: Source, K: Sink>(
     sink: &mut K,
 ) -> Status
     requires settings { IsSettings settings }
-    requires built { solving.is_built settings ≡ true }
-    ensures { Ran S.left S.faults K.room K.taken K.faults
-        (built_solve settings) source.old source.new sink.old sink.new result }
+    requires workers { settings.workers ≡ 1 }
+    ensures { Ran (source_ghosts S.left S.faults S.is_strict)
+        (sink_ghosts K.room K.taken K.faults K.is_strict)
+        (solve settings) source.old source.new sink.old sink.new result }
 {
-    match read_up_to(alloc, source, INSTANCE_LIMIT) {
-        Ok(bytes) => solve_text(alloc, settings, bytes.as_slice(), sink),
-        Err(ReadAll::TooLong) => say(b"too long\n", Status::TooLong, sink),
-        Err(ReadAll::ReadFault) => Status::ReadFault,
-        Err(ReadAll::NoMemory) => Status::NoMemory,
-    }
-}
-
-/// Solves the instance that a text says.
-fn solve_text<K: Sink>(alloc: Global, settings: Settings, bytes: &[u8], sink: &mut K) -> Status
-    requires settings { IsSettings settings }
-    requires built { solving.is_built settings ≡ true }
-    requires short { length bytes.now ≤ INSTANCE_LIMIT }
-    ensures { Ended K.room K.taken K.faults
-        (built_solve settings) (Some bytes.now) sink.old sink.new result }
-{
-    match read_instance(alloc, bytes) {
-        Ok(instance) => solve_instance(alloc, settings, instance, sink),
-        Err(InstanceError::Fault(fault)) => say_bad_instance(fault, sink),
-        Err(InstanceError::NoMemory) => Status::NoMemory,
-    }
-}
-
-/// Solves an instance.
-fn solve_instance<K: Sink>(
-    alloc: Global,
-    settings: Settings,
-    instance: Instance,
-    sink: &mut K,
-) -> Status
-    requires settings { IsSettings settings }
-    requires built { solving.is_built settings ≡ true }
-    ensures { (bytes : List ℕ) → length bytes ≤ INSTANCE_LIMIT → reading bytes ≡ Ok instance
-        → Ended K.room K.taken K.faults
-        (built_solve settings) (Some bytes) sink.old sink.new result }
-{
-    match answer_to(alloc, instance, settings) {
-        Ok((head, nodes)) => say_answer(&head, &nodes, sink),
-        Err(NoMemory) => Status::NoMemory,
-    }
-}
-
-/// The answer of one worker to an instance. All memory is taken before the first step on a square.
-fn answer_to(
-    alloc: Global,
-    instance: Instance,
-    settings: Settings,
-) -> Result<(Head, NodeList), NoMemory>
-    requires settings { IsSettings settings }
-    requires built { solving.is_built settings ≡ true }
-    ensures { IfOk result (λ a. IsAnswerTo instance settings a.0.word (answer_of a.0 a.1)) }
-{
-    let job = job_of(instance, settings);
-    let Ok(pool) = Pool::begin(alloc, &job) else {
-        return Err(NoMemory);
+    let (job, pool) = match begin_solve(alloc, settings, source, sink) {
+        Err(status) => return status,
+        Ok(begun) => begun,
     };
     let closed = alone(&job, pool);
-    Ok(finish(job, closed))
+    let (head, nodes) = finish(job, closed);
+    say_answer(&head, &nodes, sink)
+}
+
+/// Reads an instance, and writes an answer of a team of workers to it.
+pub(crate) fn run_solve_by_team<R: Threads + Wait + Sync, S: Source, K: Sink, G: Gate + Sync>(
+    rt: &R,
+    alloc: Global,
+    settings: Settings,
+    source: &mut S,
+    sink: &mut K,
+    gate: &G,
+) -> Status
+    requires { IsSettings settings }
+    ensures { Ran (source_ghosts S.left S.faults S.is_strict)
+        (sink_ghosts K.room K.taken K.faults K.is_strict)
+        (solve settings) source.old source.new sink.old sink.new result }
+{
+    let (job, pool) = match begin_solve(alloc, settings, source, sink) {
+        Err(status) => return status,
+        Ok(begun) => begun,
+    };
+    match team(rt, alloc, &job, pool, settings.workers, gate) {
+        Err(_) => Status::NoMemory,
+        Ok(closed) => {
+            let (head, nodes) = finish_by_workers(rt, job, closed, settings.workers);
+            say_answer(&head, &nodes, sink)
+        }
+    }
+}
+
+/// Reads an instance, and takes all the memory of a solve by one worker. `Ok` has the job and its
+/// pool, and nothing is written yet; `Err` has the status with which the run ended.
+fn begin_solve<S: Source, K: Sink>(
+    alloc: Global,
+    settings: Settings,
+    source: &mut S,
+    sink: &mut K,
+) -> Result<(Job, Pool), Status>
+    requires { IsSettings settings }
+    ensures { MatchResult result
+        (λ begun. (sink.new ≡ sink.old) × IsBegun (source_ghosts S.left S.faults S.is_strict)
+        settings source.old source.new begun.0 begun.1)
+        (λ status. Ran (source_ghosts S.left S.faults S.is_strict)
+        (sink_ghosts K.room K.taken K.faults K.is_strict)
+        (solve settings) source.old source.new sink.old sink.new status) }
+{
+    match read_up_to(alloc, source, INSTANCE_LIMIT) {
+        Ok(bytes) => begin_text(alloc, settings, bytes.as_slice(), sink),
+        Err(ReadAll::TooLong) => Err(say(b"too long\n", Status::TooLong, sink)),
+        Err(ReadAll::ReadFault) => Err(Status::ReadFault),
+        Err(ReadAll::NoMemory) => Err(Status::NoMemory),
+    }
+}
+
+/// The same of an instance text that was read.
+fn begin_text<K: Sink>(
+    alloc: Global,
+    settings: Settings,
+    bytes: &[u8],
+    sink: &mut K,
+) -> Result<(Job, Pool), Status>
+    requires settings { IsSettings settings }
+    requires short { length bytes.now ≤ INSTANCE_LIMIT }
+    ensures { MatchResult result
+        (λ begun. (sink.new ≡ sink.old) × ((i : Instances.Instance)
+        × IsTextOf i bytes.now × IsJob settings i begun.0 begun.1))
+        (λ status. Ended (sink_ghosts K.room K.taken K.faults K.is_strict)
+        (solve settings) (Some bytes.now) sink.old sink.new status) }
+{
+    match read_instance(alloc, bytes) {
+        Ok(instance) => match begin_job(alloc, settings, instance) {
+            Ok(begun) => Ok(begun),
+            Err(NoMemory) => Err(Status::NoMemory),
+        },
+        Err(InstanceError::Fault(fault)) => Err(say_bad_instance(fault, sink)),
+        Err(InstanceError::NoMemory) => Err(Status::NoMemory),
+    }
+}
+
+/// The job of solving an instance, and its pool.
+fn begin_job(alloc: Global, settings: Settings, instance: Instance) -> Result<(Job, Pool), NoMemory>
+    requires { IsSettings settings }
+    ensures { IfOk result (λ begun. IsJob settings instance begun.0 begun.1) }
+{
+    let job = job_of(instance, settings);
+    match Pool::begin(alloc, &job) {
+        Ok(pool) => Ok((job, pool)),
+        Err(_) => Err(NoMemory),
+    }
 }
 
 /// The job of solving an instance, from its opening.

@@ -1,7 +1,7 @@
 //! Instances at their limits, and past them.
 
-use super::{CORNER, CORNER_ANSWER, run, sink_of, words_of};
-use crate::{Status, run_alone};
+use super::{CORNER, CORNER_ANSWER, run_words, sink_of, words_of};
+use crate::{OpenGate, Status, run};
 use port_io::{MemSink, MemSource};
 use std::alloc::Global;
 use std::fmt::Write;
@@ -17,7 +17,7 @@ fn an_instance_text_has_at_most_a_mebibyte(rt: HostRuntime) -> Result<(), Fail> 
         held.extend_from_slice(CORNER.as_bytes())?;
         let mut source = MemSource::new(held, 65536, Vec::new(rt.alloc()));
         let mut sink = sink_of(rt.alloc(), 64, 0)?;
-        let status = run_alone(rt.alloc(), &words, &mut source, &mut sink);
+        let status = run(&rt, rt.alloc(), &words, &mut source, &mut sink, &OpenGate);
         assert_eq!(rt; status.code(), code);
         let wanted = if code == 0 {
             CORNER_ANSWER
@@ -40,7 +40,8 @@ fn push_polygon(text: &mut String, word: &str, vertices: u8) -> Result<(), Fail>
     Ok(())
 }
 
-/// An instance of so many points of this weight, so many polygons of each word, and vertices of each polygon.
+/// An instance of so many points of this weight, so many polygons of each word, and vertices of
+/// each polygon.
 fn large_text(
     alloc: Global,
     points: u16,
@@ -70,7 +71,7 @@ fn an_instance_at_every_limit(rt: HostRuntime) -> Result<(), Fail> {
     let held = Vec::from_slice(rt.alloc(), text.as_bytes())?;
     let mut source = MemSource::new(held, 65536, Vec::new(rt.alloc()));
     let mut sink = MemSink::with_room(rt.alloc(), 400_000, 65536, Vec::new(rt.alloc()))?;
-    let status = run_alone(rt.alloc(), &words, &mut source, &mut sink);
+    let status = run(&rt, rt.alloc(), &words, &mut source, &mut sink, &OpenGate);
     assert_eq!(rt; status, Status::Budget);
 
     // Each limit passed by one: the points, the weights, the polygons, the vertices.
@@ -82,7 +83,7 @@ fn an_instance_at_every_limit(rt: HostRuntime) -> Result<(), Fail> {
     ];
     for ((points, weight, polygons, vertices), wanted) in cases {
         let text = large_text(rt.alloc(), points, weight, polygons, vertices)?;
-        let (code, sink) = run(rt.alloc(), "solve budget=0", text.as_str())?;
+        let (code, sink) = run_words(&rt, rt.alloc(), "solve budget=0", text.as_str())?;
         assert_eq!(rt; code, 3);
         assert_eq!(rt; sink.bytes(), wanted.as_bytes());
     }

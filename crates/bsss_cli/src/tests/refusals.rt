@@ -1,7 +1,7 @@
 //! What is refused, and ports that fail.
 
-use super::{CORNER, run, sink_of, source_of, words_of};
-use crate::{Status, run_alone};
+use super::{CORNER, run_words, sink_of, source_of, words_of};
+use crate::{OpenGate, Status, run};
 use std::test::Fail;
 
 #[test]
@@ -33,13 +33,12 @@ fn each_refusal_has_its_text(rt: HostRuntime) -> Result<(), Fail> {
         ("make seed=7", "", 2, "bad words\n"),
         ("solve gap=", "", 2, "bad words\n"),
         ("", "", 2, "bad words\n"),
-        ("solve budget=0 workers=2", "", 4, "not built\n"),
         ("check", "", 5, "rejected 1 line 1\n"),
         ("check gap=1", "", 2, "bad words\n"),
         ("trial seed=7 points=4", "", 4, "not built\n"),
     ];
     for (line, input, code, text) in cases {
-        let (ended, sink) = run(rt.alloc(), line, input)?;
+        let (ended, sink) = run_words(&rt, rt.alloc(), line, input)?;
         assert_eq!(rt; ended, code, "{line}");
         assert_eq!(rt; sink.bytes(), text.as_bytes(), "{line}");
     }
@@ -52,14 +51,14 @@ fn a_failing_source_and_a_failing_sink(rt: HostRuntime) -> Result<(), Fail> {
 
     let mut source = source_of(rt.alloc(), CORNER, 2)?;
     let mut sink = sink_of(rt.alloc(), 64, 0)?;
-    let status = run_alone(rt.alloc(), &words, &mut source, &mut sink);
+    let status = run(&rt, rt.alloc(), &words, &mut source, &mut sink, &OpenGate);
     assert_eq!(rt; status, Status::ReadFault);
     assert_eq!(rt; status.code(), 6);
     assert_eq!(rt; sink.bytes(), b"".as_slice());
 
     let mut source = source_of(rt.alloc(), CORNER, 0)?;
     let mut sink = sink_of(rt.alloc(), 10, 3)?;
-    let status = run_alone(rt.alloc(), &words, &mut source, &mut sink);
+    let status = run(&rt, rt.alloc(), &words, &mut source, &mut sink, &OpenGate);
     assert_eq!(rt; status, Status::WriteFault);
     assert_eq!(rt; status.code(), 7);
     assert_eq!(rt; sink.bytes(), b"siting answer 1\nsiti".as_slice());

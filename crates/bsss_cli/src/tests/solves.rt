@@ -1,6 +1,6 @@
 //! Solves, by their answers.
 
-use super::{CORNER, CORNER_ANSWER, LONE_TOWN, run};
+use super::{CORNER, CORNER_ANSWER, LONE_TOWN, run_words};
 use std::test::Fail;
 
 #[test]
@@ -11,83 +11,102 @@ fn each_solve_writes_its_answer(rt: HostRuntime) -> Result<(), Fail> {
             "solve gap=0",
             CORNER,
             0,
-            "gap 0\nbudget 100000\npool 100000\nsite 196608 262144\ncost 327680 327680\nbound 327680\nanswer solved\nopen 0\nleases 1\nroot 196608 262144 19\nB 327680\nend\n",
+            "gap 0\nbudget 100000\npool 100000\nsite 196608 262144\ncost 327680 327680\n\
+            bound 327680\nanswer solved\nopen 0\nleases 1\nroot 196608 262144 19\nB 327680\nend\n",
         ),
         (
             "solve budget=0",
             LONE_TOWN,
             11,
-            "gap 185\nbudget 0\npool 100000\nsite 0 0\ncost 185363 185364\nbound 0\nanswer budget\nopen 0\nleases 0\nroot 0 0 19\nO 0\nend\n",
+            "gap 185\nbudget 0\npool 100000\nsite 0 0\ncost 185363 185364\nbound 0\n\
+            answer budget\nopen 0\nleases 0\nroot 0 0 19\nO 0\nend\n",
         ),
         (
             "solve pool=1 budget=10",
             LONE_TOWN,
             10,
-            "gap 185\nbudget 10\npool 1\nsite 0 0\ncost 185363 185364\nbound 0\nanswer pool_full\nopen 1\nleases 1\nroot 0 0 19\nO 0\nend\n",
+            "gap 185\nbudget 10\npool 1\nsite 0 0\ncost 185363 185364\nbound 0\n\
+            answer pool_full\nopen 1\nleases 1\nroot 0 0 19\nO 0\nend\n",
         ),
         (
             "solve pool=3 budget=10",
             LONE_TOWN,
             10,
-            "gap 185\nbudget 10\npool 3\nsite 0 0\ncost 185363 185364\nbound 0\nanswer pool_full\nopen 1\nleases 1\nroot 0 0 19\nO 0\nend\n",
+            "gap 185\nbudget 10\npool 3\nsite 0 0\ncost 185363 185364\nbound 0\n\
+            answer pool_full\nopen 1\nleases 1\nroot 0 0 19\nO 0\nend\n",
         ),
         (
             "solve pool=4 budget=1",
             LONE_TOWN,
             11,
-            "gap 185\nbudget 1\npool 4\nsite 0 0\ncost 185363 185364\nbound 0\nanswer budget\nopen 0\nleases 1\nroot 0 0 19\nS 185364\nO 0\nO 131072\nO 131072\nB 185363\nend\n",
+            "gap 185\nbudget 1\npool 4\nsite 0 0\ncost 185363 185364\nbound 0\nanswer budget\n\
+            open 0\nleases 1\nroot 0 0 19\nS 185364\nO 0\nO 131072\nO 131072\nB 185363\nend\n",
         ),
         (
             "solve",
-            "siting 1\nkind sum\npoint 0 0 1\npermit 0 0 2 0 2 2 0 2\nforbid -10 -10 10 -10 10 10 -10 10\nend\n",
+            "siting 1\nkind sum\npoint 0 0 1\npermit 0 0 2 0 2 2 0 2\n\
+            forbid -10 -10 10 -10 10 10 -10 10\nend\n",
             13,
-            "gap 65536\nbudget 100000\npool 100000\nsite none\ncost none\nbound none\nanswer empty\nopen 0\nleases 1\nroot 0 0 18\nX\nend\n",
+            "gap 65536\nbudget 100000\npool 100000\nsite none\ncost none\nbound none\n\
+            answer empty\nopen 0\nleases 1\nroot 0 0 18\nX\nend\n",
         ),
         (
             "solve budget=0",
-            "siting 1\nkind sum\npoint 2 2 1\npermit 0 0 4 0 4 4 0 4\nforbid 0 0 4 0 4 4 0 4\nend\n",
+            "siting 1\nkind sum\npoint 2 2 1\npermit 0 0 4 0 4 4 0 4\nforbid 0 0 4 0 4 4 0 4\n\
+            end\n",
             11,
-            "gap 185\nbudget 0\npool 100000\nsite 0 0\ncost 185363 185364\nbound 0\nanswer budget\nopen 0\nleases 0\nroot 0 0 19\nO 0\nend\n",
+            "gap 185\nbudget 0\npool 100000\nsite 0 0\ncost 185363 185364\nbound 0\n\
+            answer budget\nopen 0\nleases 0\nroot 0 0 19\nO 0\nend\n",
         ),
         (
             "solve budget=0",
             "siting 1\nkind max\npoint 0 0 -1\npoint 4 0 -1\npermit 0 0 4 0 4 4 0 4\nend\n",
             11,
-            "gap 262\nbudget 0\npool 100000\nsite 262144 262144\ncost -262144 -262144\nbound -586172\nanswer budget\nopen 0\nleases 0\nroot 0 0 19\nO -586172\nend\n",
+            "gap 262\nbudget 0\npool 100000\nsite 262144 262144\ncost -262144 -262144\n\
+            bound -586172\nanswer budget\nopen 0\nleases 0\nroot 0 0 19\nO -586172\nend\n",
         ),
         (
             "solve budget=0",
             "siting 1\nkind sum\npoint 5 5 3\npoint 5 5 -3\npermit 0 0 4 0 4 4 0 4\nend\n",
             11,
-            "gap 0\nbudget 0\npool 100000\nsite 0 0\ncost -1 1\nbound -1390229\nanswer budget\nopen 0\nleases 0\nroot 0 0 19\nO -1390229\nend\n",
+            "gap 0\nbudget 0\npool 100000\nsite 0 0\ncost -1 1\nbound -1390229\nanswer budget\n\
+            open 0\nleases 0\nroot 0 0 19\nO -1390229\nend\n",
         ),
         (
             "solve budget=0",
-            "siting 1\nkind sum\npoint -1000000 -1000000 -16000000\npermit -1000000 -1000000 1000000 -1000000 1000000 1000000 -1000000 1000000\nend\n",
+            "siting 1\nkind sum\npoint -1000000 -1000000 -16000000\n\
+            permit -1000000 -1000000 1000000 -1000000 1000000 1000000 -1000000 1000000\nend\n",
             11,
-            "gap 2965820800757860\nbudget 0\npool 100000\nsite 65536000000 65536000000\ncost -2965820800757861084 -2965820800757860839\nbound -3109888511975475098\nanswer budget\nopen 0\nleases 0\nroot -65536000000 -65536000000 37\nO -3109888511975475098\nend\n",
+            "gap 2965820800757860\nbudget 0\npool 100000\nsite 65536000000 65536000000\n\
+            cost -2965820800757861084 -2965820800757860839\nbound -3109888511975475098\n\
+            answer budget\nopen 0\nleases 0\nroot -65536000000 -65536000000 37\n\
+            O -3109888511975475098\nend\n",
         ),
         (
             "solve budget=1",
             LONE_TOWN,
             11,
-            "gap 185\nbudget 1\npool 100000\nsite 0 0\ncost 185363 185364\nbound 0\nanswer budget\nopen 0\nleases 1\nroot 0 0 19\nS 185364\nO 0\nO 131072\nO 131072\nB 185363\nend\n",
+            "gap 185\nbudget 1\npool 100000\nsite 0 0\ncost 185363 185364\nbound 0\n\
+            answer budget\nopen 0\nleases 1\nroot 0 0 19\nS 185364\nO 0\nO 131072\nO 131072\n\
+            B 185363\nend\n",
         ),
         (
             "solve budget=0",
             "siting 2\nkind sum\npoint 2 2 1 1\npermit 0 0 4 0 4 4 0 4\nend\n",
             11,
-            "gap 65\nbudget 0\npool 100000\nsite 0 0\ncost 65536 65536\nbound 0\nanswer budget\nopen 0\nleases 0\nroot 0 0 19\nO 0\nend\n",
+            "gap 65\nbudget 0\npool 100000\nsite 0 0\ncost 65536 65536\nbound 0\nanswer budget\n\
+            open 0\nleases 0\nroot 0 0 19\nO 0\nend\n",
         ),
         (
             "solve gap=0",
             "siting 2\nkind sum\npoint 0 0 -1 1\npermit -1 -1 1 -1 1 1 -1 1\nend\n",
             0,
-            "gap 0\nbudget 100000\npool 100000\nsite -65536 -65536\ncost -65536 -65536\nbound -65536\nanswer solved\nopen 0\nleases 1\nroot -65536 -65536 18\nB -65536\nend\n",
+            "gap 0\nbudget 100000\npool 100000\nsite -65536 -65536\ncost -65536 -65536\n\
+            bound -65536\nanswer solved\nopen 0\nleases 1\nroot -65536 -65536 18\nB -65536\nend\n",
         ),
     ];
     for (line, instance, code, tail) in cases {
-        let (ended, sink) = run(rt.alloc(), line, instance)?;
+        let (ended, sink) = run_words(&rt, rt.alloc(), line, instance)?;
         assert_eq!(rt; ended, code, "{line}");
         let version = if instance.starts_with("siting 2") {
             "2\n"
@@ -106,12 +125,13 @@ fn each_solve_writes_its_answer(rt: HostRuntime) -> Result<(), Fail> {
 #[test]
 fn one_instance_has_many_texts(rt: HostRuntime) -> Result<(), Fail> {
     let texts = [
-        "# a comment\n\nsiting\t1\r\nkind\tsum\r\npoint\t0\t0\t1\r\npermit\t+03\t4\t9\t4\t+03\t10\r\nend\r\n# after\n",
+        "# a comment\n\nsiting\t1\r\nkind\tsum\r\npoint\t0\t0\t1\r\n\
+        permit\t+03\t4\t9\t4\t+03\t10\r\nend\r\n# after\n",
         "siting 2\nkind sum\npoint 0 0 1\npermit 3 4 9 4 3 10\nend\n",
         "siting 1\nkind sum\npoint 0 0 1\npermit 3 4 3 10 9 4\nend",
     ];
     for text in texts {
-        let (code, sink) = run(rt.alloc(), "solve gap=0", text)?;
+        let (code, sink) = run_words(&rt, rt.alloc(), "solve gap=0", text)?;
         assert_eq!(rt; code, 0);
         assert_eq!(rt; sink.bytes(), CORNER_ANSWER.as_bytes());
     }
@@ -127,9 +147,9 @@ fn count_lines(text: &[u8], start: &[u8]) -> usize {
 
 #[test]
 fn a_point_off_the_grid_ends_at_the_floor(rt: HostRuntime) -> Result<(), Fail> {
-    let instance =
-        "siting 1\nkind sum\npoint 0 0 1\npermit 0 0 1 0 0 1\nforbid -8 -8 8 -8 8 8\nforbid -3 7 -3 -7 4 -7\nforbid 7 -3 7 4 -7 4\nend\n";
-    let (code, sink) = run(rt.alloc(), "solve", instance)?;
+    let instance = "siting 1\nkind sum\npoint 0 0 1\npermit 0 0 1 0 0 1\nforbid -8 -8 8 -8 8 8\n\
+        forbid -3 7 -3 -7 4 -7\nforbid 7 -3 7 4 -7 4\nend\n";
+    let (code, sink) = run_words(&rt, rt.alloc(), "solve", instance)?;
     assert_eq!(rt; code, 12);
     let lines: [(&[u8], usize); 9] = [
         (b"site none", 1),
@@ -151,7 +171,7 @@ fn a_point_off_the_grid_ends_at_the_floor(rt: HostRuntime) -> Result<(), Fail> {
 #[test]
 fn a_repelling_town_is_left_as_far_as_can_be(rt: HostRuntime) -> Result<(), Fail> {
     let instance = "siting 1\nkind sum\npoint 0 0 -1\npermit -1 -1 1 -1 1 1 -1 1\nend\n";
-    let (code, sink) = run(rt.alloc(), "solve", instance)?;
+    let (code, sink) = run_words(&rt, rt.alloc(), "solve", instance)?;
     assert_eq!(rt; code, 0);
     let lines: [&[u8]; 7] = [
         b"gap 92",
@@ -170,12 +190,16 @@ fn a_repelling_town_is_left_as_far_as_can_be(rt: HostRuntime) -> Result<(), Fail
 
 #[test]
 fn ten_towns_are_solved(rt: HostRuntime) -> Result<(), Fail> {
-    let instance =
-        "siting 1\nkind sum\npoint 12000 34000 45000\npoint 56000 71000 120000\npoint 80500 22300 64000\npoint 33300 90100 18000\npoint 97000 55000 27000\npoint 5000 80000 9000\npoint 61000 48000 210000\npoint 47000 15000 33000\npoint 72000 93000 51000\npoint 25000 60000 76000\npermit 0 0 100000 0 100000 100000 0 100000\nforbid 40000 50000 58000 52000 60000 62000 45000 66000 38000 58000\nend\n";
-    let (code, sink) = run(rt.alloc(), "solve", instance)?;
+    let instance = "siting 1\nkind sum\npoint 12000 34000 45000\npoint 56000 71000 120000\n\
+        point 80500 22300 64000\npoint 33300 90100 18000\npoint 97000 55000 27000\n\
+        point 5000 80000 9000\npoint 61000 48000 210000\npoint 47000 15000 33000\n\
+        point 72000 93000 51000\npoint 25000 60000 76000\n\
+        permit 0 0 100000 0 100000 100000 0 100000\n\
+        forbid 40000 50000 58000 52000 60000 62000 45000 66000 38000 58000\nend\n";
+    let (code, sink) = run_words(&rt, rt.alloc(), "solve", instance)?;
     assert_eq!(rt; code, 0);
     assert_eq!(rt; count_lines(sink.bytes(), b"answer solved"), 1);
-    let (unsolved, sink) = run(rt.alloc(), "solve budget=0", instance)?;
+    let (unsolved, sink) = run_words(&rt, rt.alloc(), "solve budget=0", instance)?;
     assert_eq!(rt; unsolved, 11);
     assert_eq!(rt; count_lines(sink.bytes(), b"O "), 1);
     Ok(())

@@ -24,7 +24,7 @@ struct Beginning {
 fn read_beginning<S: Source>(alloc: Global, source: &mut S) -> Result<Beginning, AnswerError>
     ensures reads { IfSome (S.left source.old)
         (λ bytes. ReadsHead (head_reading (coming_of bytes)) (S.left source.new) result) }
-    ensures read { BeginRead (start_of (S.left source.old) (S.faults source.old))
+    ensures read { BeginRead (start_of (S.left source.old) (S.faults source.old) S.is_strict)
         (S.left source.new) (S.faults source.new) result }
 {
     let mut lines = Lines::new();
@@ -37,8 +37,8 @@ impl<'a, S: Source> AnswerReader<'a, S> {
     fn after(source: &'a mut S, beginning: Beginning) -> (AnswerReader<'a, S>, Head)
         ensures same { source_of result.0 ≡ source.entry.ghost_name }
         ensures coming { coming S.left result.0 ≡ coming_then (S.left source.old) beginning }
-        ensures stream { stream_of S.left S.faults result.0
-            ≡ stream S.left S.faults beginning.lines source.old }
+        ensures stream { stream_of S.left S.faults S.is_strict result.0
+            ≡ stream S.left S.faults S.is_strict beginning.lines source.old }
         ensures head { result.1 ≡ beginning.head }
     {
         let Beginning { head, lines } = beginning;
@@ -47,17 +47,20 @@ impl<'a, S: Source> AnswerReader<'a, S> {
 
     /// The reader of the text that the source gives, with its head read, to the line of its root.
     ///
-    /// It is `new` and then `read_head`. At an error the reader is gone; what is known then of the source is what `read_head` says.
+    /// It is `new` and then `read_head`. At an error the reader is gone; what is known then of the
+    /// source is what `read_head` says.
     pub fn begin(
         alloc: Global,
         source: &'a mut S,
     ) -> Result<(AnswerReader<'a, S>, Head), AnswerError>
-        ensures* leaves { sem 𝓛 (RestsIfErr S.row source.entry (λ begun. source_of begun.0) result
-            (λ last. LeavesAs (start_of (S.left source.old) (S.faults source.old))
+        ensures* leaves { sem 𝓛 (RestsIfErr S.row source.entry
+            (λ begun. source_of begun.0) result
+            (λ last. LeavesAs (start_of (S.left source.old) (S.faults source.old) S.is_strict)
             (S.left last) (S.faults last) result)) }
         ensures same { IfOk result (λ begun. source_of begun.0 ≡ source.entry.ghost_name) }
         ensures read { IfOk result (λ begun.
-            HeadRead S.left S.faults (start_of (S.left source.old) (S.faults source.old)) begun) }
+            HeadRead S.left S.faults
+            (start_of (S.left source.old) (S.faults source.old) S.is_strict) begun) }
         ensures reads { IfSome (S.left source.old)
             (λ bytes. BeginsAs S.left (head_reading (coming_of bytes)) result) }
     {

@@ -18,8 +18,9 @@ use std::alloc::Global;
 
 /// Writes the canonical text of an instance.
 fn put_instance<K: Sink>(instance: &Instance, sink: &mut K) -> Result<(), WriteFault>
-    ensures { Wrote (sink_view K.room K.taken K.faults sink.old)
-        (sink_view K.room K.taken K.faults sink.new) (instance_text instance.now) result }
+    ensures { Wrote (sink_view K.room K.taken K.faults K.is_strict sink.old)
+        (sink_view K.room K.taken K.faults K.is_strict sink.new)
+        (instance_text instance.now) result }
 {
     let mut out = Out::new(sink);
     write_instance(instance, &mut out)?;
@@ -39,7 +40,8 @@ fn tells(sink: &SureSink, bytes: &[u8]) -> bool
 
 /// Whether these bytes are the canonical text of an instance.
 fn is_canonical(alloc: Global, instance: &Instance, bytes: &[u8]) -> Result<bool, AnswerError>
-    ensures value { IfOk result (λ same. same ≡ bytes_eq (instance_text instance.now) bytes.now) }
+    ensures value { IfOk result
+        (λ same. same ≡ bytes_eq (instance_text instance.now) bytes.now) }
     ensures memory { OnErr result (result ≡ Err AnswerError.NoMemory) }
 {
     let Ok(mut sink) = SureSink::with_room(alloc, bytes.len()) else {

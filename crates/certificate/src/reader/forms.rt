@@ -49,7 +49,8 @@ fn if_written(value: i64, field: &[u8]) -> Option<i64>
 
 /// The number from `low` to `high` that a field is.
 fn number_in(low: i64, high: i64, field: &[u8]) -> Option<i64>
-    ensures { result ≡ option_and_then (forms.ranged low high) (option_map saturated_size (number_of field.now)) }
+    ensures { result ≡ option_and_then (forms.ranged low high)
+        (option_map saturated_size (number_of field.now)) }
 {
     ranged(low, high, number(field)?)
 }
@@ -80,7 +81,8 @@ fn after_word<'x>(word: &[u8], line: &'x [u8]) -> Option<&'x [u8]>
 
 /// What stands before the first space, and what after it.
 fn at_space(bytes: &[u8]) -> Option<(&[u8], &[u8])>
-    ensures { option_map (λ parts. (parts.0.now, parts.1.now)) result ≡ forms.at_space bytes.now }
+    ensures { option_map (λ parts. (parts.0.now, parts.1.now)) result
+        ≡ forms.at_space bytes.now }
 {
     for (i, byte) in bytes.iter().enumerate() {
         if *byte == b' ' {

@@ -35,8 +35,8 @@ fn read_number<S: Source>(
 ) -> Result<i64, AnswerError>
     requires { length word.now ≤ 1000 }
     ensures reads { Read (formed (forms.number_form word.now low high))
-        (stream S.left S.faults lines.old source.old)
-        (stream S.left S.faults lines.new source.new) result }
+        (stream S.left S.faults S.is_strict lines.old source.old)
+        (stream S.left S.faults S.is_strict lines.new source.new) result }
     ensures range { IfOk result (λ z. (low ≤ℤ z) × (z ≤ℤ high)) }
 {
     lines.read_line(source)?;
@@ -46,8 +46,8 @@ fn read_number<S: Source>(
 /// Reads the first line: whether it says the second version.
 fn read_version<S: Source>(lines: &mut AnswerLines, source: &mut S) -> Result<bool, AnswerError>
     ensures { Read (formed forms.version_form)
-        (stream S.left S.faults lines.old source.old)
-        (stream S.left S.faults lines.new source.new) result }
+        (stream S.left S.faults S.is_strict lines.old source.old)
+        (stream S.left S.faults S.is_strict lines.new source.new) result }
 {
     lines.read_line(source)?;
     or_bad(version_form(lines.text()), lines.line())
@@ -56,8 +56,8 @@ fn read_version<S: Source>(lines: &mut AnswerLines, source: &mut S) -> Result<bo
 /// Reads the lines of the gap, the budget and the pool.
 fn read_limits<S: Source>(lines: &mut AnswerLines, source: &mut S) -> Result<Limits, AnswerError>
     ensures { Read limits_part
-        (stream S.left S.faults lines.old source.old)
-        (stream S.left S.faults lines.new source.new) result }
+        (stream S.left S.faults S.is_strict lines.old source.old)
+        (stream S.left S.faults S.is_strict lines.new source.new) result }
 {
     let gap = read_number(lines, source, b"gap", 0, 1 << 62)?;
     let budget = read_number(lines, source, b"budget", 0, MOST)?;
@@ -75,8 +75,8 @@ fn read_site<S: Source>(
     source: &mut S,
 ) -> Result<Option<Site>, AnswerError>
     ensures { Read (formed forms.site_form)
-        (stream S.left S.faults lines.old source.old)
-        (stream S.left S.faults lines.new source.new) result }
+        (stream S.left S.faults S.is_strict lines.old source.old)
+        (stream S.left S.faults S.is_strict lines.new source.new) result }
 {
     lines.read_line(source)?;
     or_bad(site_form(lines.text()), lines.line())
@@ -89,8 +89,8 @@ fn read_cost<S: Source>(
     site: Option<Site>,
 ) -> Result<Priced, AnswerError>
     ensures { Read (formed (forms.cost_form site))
-        (stream S.left S.faults lines.old source.old)
-        (stream S.left S.faults lines.new source.new) result }
+        (stream S.left S.faults S.is_strict lines.old source.old)
+        (stream S.left S.faults S.is_strict lines.new source.new) result }
 {
     lines.read_line(source)?;
     or_bad(priced_form(site, lines.text()), lines.line())
@@ -99,8 +99,8 @@ fn read_cost<S: Source>(
 /// Reads the lines of the site and its costs.
 fn read_best<S: Source>(lines: &mut AnswerLines, source: &mut S) -> Result<Priced, AnswerError>
     ensures { Read best_part
-        (stream S.left S.faults lines.old source.old)
-        (stream S.left S.faults lines.new source.new) result }
+        (stream S.left S.faults S.is_strict lines.old source.old)
+        (stream S.left S.faults S.is_strict lines.new source.new) result }
 {
     let site = read_site(lines, source)?;
     read_cost(lines, source, site)
@@ -112,8 +112,8 @@ fn read_bound<S: Source>(
     source: &mut S,
 ) -> Result<Option<i64>, AnswerError>
     ensures { Read (formed forms.bound_form)
-        (stream S.left S.faults lines.old source.old)
-        (stream S.left S.faults lines.new source.new) result }
+        (stream S.left S.faults S.is_strict lines.old source.old)
+        (stream S.left S.faults S.is_strict lines.new source.new) result }
 {
     lines.read_line(source)?;
     or_bad(bound_form(lines.text()), lines.line())
@@ -122,8 +122,8 @@ fn read_bound<S: Source>(
 /// Reads the line of the word.
 fn read_word<S: Source>(lines: &mut AnswerLines, source: &mut S) -> Result<Word, AnswerError>
     ensures { Read (formed forms.word_form)
-        (stream S.left S.faults lines.old source.old)
-        (stream S.left S.faults lines.new source.new) result }
+        (stream S.left S.faults S.is_strict lines.old source.old)
+        (stream S.left S.faults S.is_strict lines.new source.new) result }
 {
     lines.read_line(source)?;
     or_bad(word_form(lines.text()), lines.line())
@@ -132,8 +132,8 @@ fn read_word<S: Source>(lines: &mut AnswerLines, source: &mut S) -> Result<Word,
 /// Reads the lines of the bound, the word, the open squares and the leases.
 fn read_outcome<S: Source>(lines: &mut AnswerLines, source: &mut S) -> Result<Outcome, AnswerError>
     ensures { Read outcome_part
-        (stream S.left S.faults lines.old source.old)
-        (stream S.left S.faults lines.new source.new) result }
+        (stream S.left S.faults S.is_strict lines.old source.old)
+        (stream S.left S.faults S.is_strict lines.new source.new) result }
 {
     let bound = read_bound(lines, source)?;
     let word = read_word(lines, source)?;
@@ -154,8 +154,8 @@ fn read_root<S: Source>(
     root: Square,
 ) -> Result<Square, AnswerError>
     ensures { Read (formed (forms.root_form root))
-        (stream S.left S.faults lines.old source.old)
-        (stream S.left S.faults lines.new source.new) result }
+        (stream S.left S.faults S.is_strict lines.old source.old)
+        (stream S.left S.faults S.is_strict lines.new source.new) result }
 {
     lines.read_line(source)?;
     // A line as long as no square's can be wasn't kept: the square is within the largest one.
@@ -170,8 +170,8 @@ fn read_lines_after<S: Source>(
     instance: Instance,
 ) -> Result<Head, AnswerError>
     ensures { Read (after_instance instance)
-        (stream S.left S.faults lines.old source.old)
-        (stream S.left S.faults lines.new source.new) result }
+        (stream S.left S.faults S.is_strict lines.old source.old)
+        (stream S.left S.faults S.is_strict lines.new source.new) result }
 {
     let limits = read_limits(lines, source)?;
     let priced = read_best(lines, source)?;
@@ -187,8 +187,8 @@ pub(super) fn read_head_lines<S: Source>(
     lines: &mut AnswerLines,
     source: &mut S,
 ) -> Result<Head, AnswerError>
-    ensures { ReadInMemory head_reading (stream S.left S.faults lines.old source.old)
-        (stream S.left S.faults lines.new source.new) result }
+    ensures { ReadInMemory head_reading (stream S.left S.faults S.is_strict lines.old source.old)
+        (stream S.left S.faults S.is_strict lines.new source.new) result }
 {
     let second = read_version(lines, source)?;
     let instance = read_instance_lines(alloc, lines, source, second)?;
@@ -204,8 +204,8 @@ impl<'a, S: Source> AnswerReader<'a, S> {
         ensures blames { Blames (faults_of S.faults self.old) (faults_of S.faults self.new) result }
 
         // As in `next`; but memory may be wanted.
-        ensures read { ReadInMemory head_reading (stream_of S.left S.faults self.old)
-            (stream_of S.left S.faults self.new) result }
+        ensures read { ReadInMemory head_reading (stream_of S.left S.faults S.is_strict self.old)
+            (stream_of S.left S.faults S.is_strict self.new) result }
     {
         read_head_lines(alloc, &mut self.lines, self.source)
     }

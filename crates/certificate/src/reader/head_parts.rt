@@ -16,14 +16,16 @@ pub(super) struct Limits {
 }
 
 impl Model for Limits {
-    ghost use Rattle.std.specs.Prelude.{pos, ◌≤ℤ◌, ◌≤◌, ◌^◌};
+    ghost use Rattle.std.specs.Prelude.{pos, ◌≤ℤ◌, ◌≤◌};
+    ghost use Rattle.certificate.specs.Forms.{most_gap, most_count};
     ghost use Rattle.certificate.specs.HeadReading as heads;
 
     ghost Value = { heads.Limits };
 
     ghost view = { λ l. record { gap = l.gap; budget = l.budget; pool = l.pool } };
 
-    ghost invariant = { λ l. (pos 0 ≤ℤ l.gap) × (l.gap ≤ℤ pos (2 ^ 62)) × (l.budget ≤ 1000000) × (1 ≤ l.pool) × (l.pool ≤ 1000000) };
+    ghost invariant = { λ l. (pos 0 ≤ℤ l.gap) × (l.gap ≤ℤ pos most_gap)
+        × (l.budget ≤ most_count) × (1 ≤ l.pool) × (l.pool ≤ most_count) };
 }
 
 /// The site with its costs, if there is one.
@@ -62,11 +64,17 @@ pub(super) struct Outcome {
 
 impl Model for Outcome {
     ghost use Rattle.std.specs.Prelude.{◌≤◌};
+    ghost use Rattle.certificate.specs.Forms.{most_count};
     ghost use Rattle.certificate.specs.HeadReading as heads;
 
     ghost Value = { heads.Outcome };
 
-    ghost view = { λ o. record { bound = o.bound; word = o.word; open_count = o.open_count; leases = o.leases } };
+    ghost view = { λ o. record {
+      bound = o.bound;
+      word = o.word;
+      open_count = o.open_count;
+      leases = o.leases;
+    } };
 
-    ghost invariant = { λ o. (o.open_count ≤ 1000000) × (o.leases ≤ 1000000) };
+    ghost invariant = { λ o. (o.open_count ≤ most_count) × (o.leases ≤ most_count) };
 }

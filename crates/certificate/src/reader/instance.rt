@@ -80,9 +80,10 @@ fn read_rest<S: Source>(
     source: &mut S,
     part: &mut Part,
 ) -> Result<(), AnswerError>
-    ensures reads { RestRead (stream S.left S.faults lines.old source.old)
-        (stream S.left S.faults lines.new source.new) part.old part.new result }
-    ensures more { IsOk result → (lines.old.read < lines.new.read) × (lines.new.read ≤ answer_limit) }
+    ensures reads { RestRead (stream S.left S.faults S.is_strict lines.old source.old)
+        (stream S.left S.faults S.is_strict lines.new source.new) part.old part.new result }
+    ensures more { IsOk result
+        → (lines.old.read < lines.new.read) × (lines.new.read ≤ answer_limit) }
 {
     while !lines.read_piece(source)? {
         part.add(lines.text())?;
@@ -98,9 +99,10 @@ fn read_part_line<S: Source>(
     source: &mut S,
     part: &mut Part,
 ) -> Result<bool, AnswerError>
-    ensures reads { PartLineRead (stream S.left S.faults lines.old source.old)
-        (stream S.left S.faults lines.new source.new) part.old part.new result }
-    ensures more { IsOk result → (lines.old.read < lines.new.read) × (lines.new.read ≤ answer_limit) }
+    ensures reads { PartLineRead (stream S.left S.faults S.is_strict lines.old source.old)
+        (stream S.left S.faults S.is_strict lines.new source.new) part.old part.new result }
+    ensures more { IsOk result
+        → (lines.old.read < lines.new.read) × (lines.new.read ≤ answer_limit) }
 {
     let whole = lines.read_piece(source)?;
     part.add(lines.text())?;
@@ -118,8 +120,8 @@ fn read_part<S: Source>(
     lines: &mut AnswerLines,
     source: &mut S,
 ) -> Result<Part, AnswerError>
-    ensures { PartRead (stream S.left S.faults lines.old source.old)
-        (stream S.left S.faults lines.new source.new) result }
+    ensures { PartRead (stream S.left S.faults S.is_strict lines.old source.old)
+        (stream S.left S.faults S.is_strict lines.new source.new) result }
 {
     let mut part = Part::new(alloc);
     while !read_part_line(lines, source, &mut part)? {}
@@ -133,8 +135,9 @@ pub(super) fn read_instance_lines<S: Source>(
     source: &mut S,
     second: bool,
 ) -> Result<Instance, AnswerError>
-    ensures { ReadInMemory (instance_part second) (stream S.left S.faults lines.old source.old)
-        (stream S.left S.faults lines.new source.new) result }
+    ensures { ReadInMemory (instance_part second)
+        (stream S.left S.faults S.is_strict lines.old source.old)
+        (stream S.left S.faults S.is_strict lines.new source.new) result }
 {
     let part = read_part(alloc, lines, source)?;
     canonical_instance(alloc, second, &part)

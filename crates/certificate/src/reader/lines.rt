@@ -14,10 +14,7 @@ use port_io::Source;
 pub(super) fn or_bad<T>(value: Option<T>, line: u64) -> Result<T, AnswerError>
     ensures { result ≡ ok_or value (AnswerError.Form line) }
 {
-    match value {
-        Some(value) => Ok(value),
-        None => Err(AnswerError::Form { line }),
-    }
+    value.ok_or(AnswerError::Form { line })
 }
 
 /// Reads a node line or the last line.
@@ -25,8 +22,8 @@ pub(super) fn read_item<S: Source>(
     lines: &mut AnswerLines,
     source: &mut S,
 ) -> Result<Item, AnswerError>
-    ensures { Read (formed form_of_item) (stream S.left S.faults lines.old source.old)
-        (stream S.left S.faults lines.new source.new) result }
+    ensures { Read (formed form_of_item) (stream S.left S.faults S.is_strict lines.old source.old)
+        (stream S.left S.faults S.is_strict lines.new source.new) result }
 {
     lines.read_line(source)?;
     or_bad(item_form(lines.text()), lines.line())
@@ -37,8 +34,8 @@ pub(super) fn read_end<S: Source>(
     lines: &mut AnswerLines,
     source: &mut S,
 ) -> Result<(), AnswerError>
-    ensures { EndRead (stream S.left S.faults lines.old source.old)
-        (stream S.left S.faults lines.new source.new) result }
+    ensures { EndRead (stream S.left S.faults S.is_strict lines.old source.old)
+        (stream S.left S.faults S.is_strict lines.new source.new) result }
 {
     lines.read_end(source)?;
     Ok(())

@@ -12,13 +12,14 @@ use text_lines::next_line;
 
 const TEXT: &[u8] = b"siting answer 1\n\
     siting 1\nkind sum\npoint 2 2 1\npermit 0 0 4 0 4 4 0 4\nend\n\
-    gap 185\nbudget 1\npool 100000\nsite 0 0\ncost 185363 185364\nbound 0\nanswer budget\nopen 0\nleases 1\nroot 0 0 19\n\
-    S 185364\nO 0\nO 131072\nO 131072\nB 185363\nend\n";
+    gap 185\nbudget 1\npool 100000\nsite 0 0\ncost 185363 185364\nbound 0\nanswer budget\nopen 0\n\
+    leases 1\nroot 0 0 19\nS 185364\nO 0\nO 131072\nO 131072\nB 185363\nend\n";
 
 /// Reads an answer to its end, and counts its node lines.
 fn count_nodes<S: Source>(alloc: Global, source: &mut S) -> Result<u64, AnswerError>
     // All bytes are read, and a fault of reading is one of the source.
-    ensures end { IfOk result (λ _. IfSome (S.left source.old) (λ _. S.left source.new ≡ Some [])) }
+    ensures end { IfOk result (λ _. IfSome (S.left source.old)
+        (λ _. S.left source.new ≡ Some [])) }
     ensures blames { Blames (S.faults source.old) (S.faults source.new) result }
 {
     let mut reader = AnswerReader::new(source);
@@ -35,7 +36,8 @@ fn count_nodes<S: Source>(alloc: Global, source: &mut S) -> Result<u64, AnswerEr
     Err(AnswerError::TooLong)
 }
 
-/// The first line of a text that differs from a form, or what else stopped the reading; 0 and the number of nodes where nothing did.
+/// The first line of a text that differs from a form, or what else stopped the reading; 0 and the
+/// number of nodes where nothing did.
 fn outcome(alloc: Global, text: &[u8], chunk: usize, fails: u64) -> Result<(u8, u64), AllocError> {
     let fails = Vec::from_slice(alloc, &[fails])?;
     let mut source = MemSource::new(Vec::from_slice(alloc, text)?, chunk.max(1), fails);

@@ -1,4 +1,4 @@
-use Rattle.std.proofs.Common.{◌<◌, length, sym, arith, ◌∙◌}
+use Rattle.std.proofs.Common.{sym, arith}
 use Rattle.siting_definitions.specs.Point.{Place}
 use Rattle.siting_definitions.specs.Excluded.{is_right_of}
 use Rattle.exclusion.proofs.ExcludedLemmas.{some_edge_at, some_edge_more, some_edge_none}

@@ -7,5 +7,5 @@ use Rattle.instance_text.proofs.write.write_points.Given as goal
 -- the text of what stands before was put
 abbrev pub invariant-loop-point : goal.invariant-loop-point
 invariant-loop-point g l =
-    PutOn {T = Unit {0}} {E = Unit {0}} g.K.Sink.room g.K.Sink.taken g.K.Sink.faults l.fn.out l.out
+    PutOn {T = Unit {0}} {E = Unit {0}} g.K.Sink.room g.K.Sink.taken g.K.Sink.faults g.K.Sink.is_strict l.fn.out l.out
     (flat_map point_text (take l.point-index l.points)) (Ok tt)

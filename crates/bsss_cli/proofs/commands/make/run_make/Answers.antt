@@ -13,4 +13,4 @@ returns-in-Ok g c told =
     Ended-says (make c.args.seed c.args.points) told refl (λ h. absurd (false≢true h)) (refl, ap (λ (i : Instance). instance_text i) is) c.say_made.ensures
 
 pub returns-in-Err : goal.returns-in-Err
-returns-in-Err g c told = Ended-no_memory _ _ _ (make c.args.seed c.args.points) told _
+returns-in-Err g c told = Ended-no_memory _ (make c.args.seed c.args.points) told _ refl

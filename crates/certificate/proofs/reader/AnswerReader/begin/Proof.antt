@@ -5,7 +5,7 @@
 --     κ, q and μ, r                the lifetime of the source's borrow and that of its type, with the shares of their tokens
 --     s, x                         the source, and its value at entry
 -- A comment in brackets lists what is owned there, before the locals.
-use Rattle.std.proofs.Common.{◌≡◌, ℕ, ◌≤◌, List, [], ◌∷◌, ◌++◌, refl, sym, ap, subst, ◌∙◌, lit<, inl, inr}
+use Rattle.std.proofs.Common.{◌≡◌, ℕ, List, [], ◌∷◌, ◌++◌, refl, sym, ap, subst, ◌∙◌, lit<, inl, inr}
 use Rattle.std.specs.Prelude.{IfSome, Ok, Err}
 use Rattle.std.specs.Borrow.{RestsIfErr}
 use mir.Syntax.{a_type, named, dcons, dnil}
@@ -85,7 +85,7 @@ begin_spec 𝓤 𝓛 𝓜 𝓡 wired S L ghosts dict met =
     let name : Tup.Denot → ℕ = λ made. source_of made.0 in let bytes = ghosts.left x in
     let Reads : S.Denot → In.Denot → Type 0 = λ y u. IfSome bytes (λ bs. ReadsHead (head_reading (coming_of bs)) (ghosts.left y) u) in
     let Begins : Out.Denot → Type 0 = λ u. IfSome bytes (λ bs. BeginsAs ghosts.left (head_reading (coming_of bs)) u) in
-    let start = start_of bytes (ghosts.faults x) in let ReadTo : S.Denot → In.Denot → Type 0 = λ y u. BeginRead start (ghosts.left y) (ghosts.faults y) u in
+    let start = start_of bytes (ghosts.faults x) ghosts.is_strict in let ReadTo : S.Denot → In.Denot → Type 0 = λ y u. BeginRead start (ghosts.left y) (ghosts.faults y) u in
     let Leaves : Out.Denot → S.Denot → Type 0 = λ u y. LeavesAs start (ghosts.left y) (ghosts.faults y) u in
     let handle = lone Z global_laws.the_row_laws 𝓛 a z.0.4.0 are.0 in let h : Val = handle.0 in let told = mut_Tells (named 0) κ R s z.0.4.1.0 are.1.0 in
     let Ref : Lft → ℕ → S.Denot → Fml = λ η δ y. (MutRef (named 0) η R).own_val (record { ref_ptr = (b, o); ghost_name = δ; now = y }) (vptr b o ∷ []) in
@@ -139,9 +139,9 @@ begin_spec 𝓤 𝓛 𝓜 𝓡 wired S L ghosts dict met =
           calls_at ! (framed 𝓤 H 𝓜 𝓣) G' (k-thm.met 𝓤 𝓛 𝓜 𝓡 (code.calls-certificate::reader::AnswerReader::after 𝓡.env wired) S L ghosts dict met) y' (and_then ! (get ! refl) (and_then ! (get ! refl) (no_more !))) (λ w.
           use1 𝓛 (later (some (λ (made : Tup.Denot). ((‵ (flft κ q) ⊛ ‵ (flft μ r) ⊛ ‵ ftrue) ⊛ ‵ (Tup.own_val made (w ∷ []))) ⊛
           some (λ (ws : Lasts (k.ended S ghosts dict) y'.0.0 y'.0.3). ‵ (lasts (k.ended S ghosts dict) y'.0.0 y'.0.3 ws) ⊛ raw (fact 𝓤 (name made ≡ γ)) ⊛ raw (fact 𝓤 (coming ghosts.left made.0 ≡ coming_then (ghosts.left last) p)) ⊛
-          raw (fact 𝓤 (stream_of ghosts.left ghosts.faults made.0 ≡ record { lines = p.lines; left = ghosts.left last; faults = ghosts.faults last })) ⊛ raw (fact 𝓤 (made.1 ≡ p.head)))))) (id⊢ 𝓤 _) $
+          raw (fact 𝓤 (stream_of ghosts.left ghosts.faults ghosts.is_strict made.0 ≡ record { lines = p.lines; left = ghosts.left last; faults = ghosts.faults last; is_strict = ghosts.is_strict })) ⊛ raw (fact 𝓤 (made.1 ≡ p.head)))))) (id⊢ 𝓤 _) $
           await ! tt $ pick ! (λ made. split ! $ split ! $ move ! (2 ∷ []) $ pick ! (λ ws'. split ! $ drop ! $ split ! $
-          heard ! (name made ≡ γ) (λ same. split ! $ heard ! (coming ghosts.left made.0 ≡ coming_then (ghosts.left last) p) (λ comes. split ! $ heard ! (stream_of ghosts.left ghosts.faults made.0 ≡ record { lines = p.lines; left = ghosts.left last; faults = ghosts.faults last }) (λ streams. heard ! (made.1 ≡ p.head) (λ its_head. move ! (1 ∷ []) $
+          heard ! (name made ≡ γ) (λ same. split ! $ heard ! (coming ghosts.left made.0 ≡ coming_then (ghosts.left last) p) (λ comes. split ! $ heard ! (stream_of ghosts.left ghosts.faults ghosts.is_strict made.0 ≡ record { lines = p.lines; left = ghosts.left last; faults = ghosts.faults last; is_strict = ghosts.is_strict }) (λ streams. heard ! (made.1 ≡ p.head) (λ its_head. move ! (1 ∷ []) $
           -- [the reader and the head; the two tokens]
           peeks ! Tup (Is Tup) (shows 𝓛 Tup) made (w ∷ []) (λ is'. let whole_typed = live_typed 0 (lit< tt) (layout Tup) w (typed Tup LTup 𝓛 made w is') in
           lands_as ! refl refl (typed Tup LTup 𝓛 made w is') $ sets_last ! (agg ! (and_then ! (lit ! tt) (and_then ! (get ! refl) (no_more !)))) refl whole_typed $

@@ -1,5 +1,8 @@
-use Rattle.certificate.proofs.PartLemmas.{in_part-next, in_part-ends, in_part-stopped}
+use Rattle.certificate.proofs.PartLemmas.{in_part-start, in_part-next, in_part-ends, in_part-stopped}
 use Rattle.certificate.proofs.reader.instance.read_part.Goals as goal
+
+pub loop-part-init : goal.loop-part-init
+loop-part-init g c = in_part-start _ _ c.new-part.ensures
 
 pub returns-in_err-read_part_line : goal.returns-in_err-read_part_line
 returns-in_err-read_part_line g c =

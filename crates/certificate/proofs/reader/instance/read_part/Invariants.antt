@@ -6,7 +6,7 @@ use Rattle.certificate.proofs.reader.instance.read_part.Given as goal
 
 -- some lines were kept
 abbrev pub invariant-loop-part : goal.invariant-loop-part
-invariant-loop-part g l = InPart (stream g.S.Source.left g.S.Source.faults l.fn.lines l.fn.source) (stream g.S.Source.left g.S.Source.faults l.lines l.source) l.part
+invariant-loop-part g l = InPart (stream g.S.Source.left g.S.Source.faults g.S.Source.is_strict l.fn.lines l.fn.source) (stream g.S.Source.left g.S.Source.faults g.S.Source.is_strict l.lines l.source) l.part
 
 -- each turn reads a byte at least
 abbrev pub decreases-loop-part : goal.decreases-loop-part

@@ -1,8 +1,11 @@
 use Rattle.std.proofs.Common.{◌≤◌, refl, ◌∙◌, ap, true, false, arith}
 use Rattle.certificate.specs.HeadReading.{answer_error}
 use Rattle.certificate.specs.PartReading.{part_with}
-use Rattle.certificate.proofs.PartLemmas.{in_rest-next, in_rest-ends, rest_error, rest_stopped, rest_no_memory, memory_error}
+use Rattle.certificate.proofs.PartLemmas.{in_rest-start, in_rest-next, in_rest-ends, rest_error, rest_stopped, rest_no_memory, memory_error}
 use Rattle.certificate.proofs.reader.instance.read_rest.Goals as goal
+
+pub loop-part-init : goal.loop-part-init
+loop-part-init g c = record { read = in_rest-start _ _; count = omega arith }
 
 pub returns-in_err-read_piece-clause-reads : goal.returns-in_err-read_piece-clause-reads
 returns-in_err-read_piece-clause-reads g c =

@@ -7,7 +7,7 @@ use Rattle.certificate.proofs.reader.instance.read_rest.Given as goal
 -- a front of the line was kept
 abbrev pub invariant-loop-part : goal.invariant-loop-part
 invariant-loop-part g l = record {
-  read : InRest (stream g.S.Source.left g.S.Source.faults l.fn.lines l.fn.source) (stream g.S.Source.left g.S.Source.faults l.lines l.source) l.fn.part l.part;
+  read : InRest (stream g.S.Source.left g.S.Source.faults g.S.Source.is_strict l.fn.lines l.fn.source) (stream g.S.Source.left g.S.Source.faults g.S.Source.is_strict l.lines l.source) l.fn.part l.part;
   count : l.fn.lines.read ≤ l.lines.read;
 }
 

@@ -5,10 +5,10 @@ use Rattle.line_stream.proofs.lines.Lines.has_more.Goals as goal
 
 pub returns-then-not-is_empty : goal.returns-then-not-is_empty
 returns-then-not-is_empty g c =
-    filled_held g.row.LIMIT (stream g.S.Source.left g.S.Source.faults c.args.self.now c.args.source.now)
+    filled_held g.row.LIMIT (stream g.S.Source.left g.S.Source.faults g.S.Source.is_strict c.args.self.now c.args.source.now)
     (let e = ap (λ (s : LinesState). length s.ahead) c.self.view_is in grind arith)
 
 pub returns : goal.returns
 returns g c =
     rw (← c.self.view_is)
-    (filled_now g.row.LIMIT _ _ c.fill.new.self _ (no_length c.self.inside.ahead (grind arith)) refl c.fill.ensures.bytes c.fill.ensures.some c.fill.ensures.end c.fill.ensures.few c.fill.ensures.err c.fill.ensures.none c.fill.ensures.cause)
+    (filled_now g.row.LIMIT _ _ c.fill.new.self _ (no_length c.self.inside.ahead (grind arith)) refl c.fill.ensures.bytes c.fill.ensures.some c.fill.ensures.end c.fill.ensures.few c.fill.ensures.err c.fill.ensures.none c.fill.ensures.cause refl c.fill.ensures.strict)

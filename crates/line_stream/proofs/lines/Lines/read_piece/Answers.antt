@@ -10,7 +10,7 @@ loop-self-init g c =
     let same : c.begin_line.new.self.read ≡ c.args.self.now.read = ap (λ (s : LinesState). s.read) c.begin_line.ensures in
     let zero : length c.begin_line.new.self.kept ≡ 0 = ap length none in
     record {
-      in_line = in_line-start g.row.LIMIT _ _ c.begin_line.ensures refl refl;
+      in_line = in_line-start g.row.LIMIT _ _ c.begin_line.ensures refl refl refl;
       count = omega arith;
       within = λ some. let no : ⊥ = omega arith in absurd no;
       most = omega arith;
@@ -27,11 +27,11 @@ returns-in-Err-clause-reads g c =
 pub returns-then-bytes_left-eq0-clause-reads : goal.returns-then-bytes_left-eq0-clause-reads
 returns-then-bytes_left-eq0-clause-reads g c =
     let filled = rw (c.in-Ok-true.is, c.in-Ok-true.field-0-test) at c.has_more.ensures in
-    in_line-over g.row.LIMIT _ _ _ (in_line-filled g.row.LIMIT _ _ _ _ _ c.loop-self.invariant.in_line filled) filled.fills (sym c.bytes_left.ensures ∙ c.if-bytes_left-eq0.true)
+    in_line-over g.row.LIMIT _ _ _ (in_line-filled g.row.LIMIT _ _ _ _ c.loop-self.invariant.in_line filled) filled.fills.0 (sym c.bytes_left.ensures ∙ c.if-bytes_left-eq0.true)
 
 pub returns-then-take_front-clause-reads : goal.returns-then-take_front-clause-reads
 returns-then-take_front-clause-reads g c =
-    in_line-feed g.row.LIMIT _ _ _ (in_line-held g.row.LIMIT _ _ _ _ c.loop-self.invariant.in_line c.has_more.ensures) (rw c.if-take_front.true at c.take_front.ensures)
+    in_line-feed g.row.LIMIT _ _ _ (in_line-held g.row.LIMIT _ _ _ c.loop-self.invariant.in_line (rw (c.in-Ok-true.is, c.in-Ok-true.field-0-test) at c.has_more.ensures)) (rw c.if-take_front.true at c.take_front.ensures)
 
 pub loop-self-preserved : goal.loop-self-preserved
 loop-self-preserved g c =
@@ -41,7 +41,7 @@ loop-self-preserved g c =
     let same : c.has_more.new.self.read ≡ c.loop-self.self.read = ap (λ (s : LinesState). s.read) c.has_more.ensures.lines in
     let count : c.has_more.new.self.read + (length front.front + 0) ≡ c.take_front.new.self.read = front.count in
     record {
-      in_line = in_line-front g.row.LIMIT _ _ _ (in_line-held g.row.LIMIT _ _ _ _ c.loop-self.invariant.in_line c.has_more.ensures) front;
+      in_line = in_line-front g.row.LIMIT _ _ _ (in_line-held g.row.LIMIT _ _ _ c.loop-self.invariant.in_line (rw (c.in-Ok-true.is, c.in-Ok-true.field-0-test) at c.has_more.ensures)) front;
       count = omega (arith, c.loop-self.invariant.count);
       within = λ _. front.within;
       most = front.few;

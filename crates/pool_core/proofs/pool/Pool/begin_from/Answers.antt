@@ -4,6 +4,7 @@ use Rattle.discard_log.specs.LogView.{LogView}
 use Rattle.discard_log.specs.declared.node.Node.{Node}
 use Rattle.pool_core.specs.declared.pool.Pool.TheInside.{Inside}
 use Rattle.pool_core.specs.Job.{Job}
+use Rattle.pool_core.specs.JobFields.{job_of}
 use Rattle.pool_core.specs.Begun.{IsBegunFrom, IsResumable}
 use Rattle.pool_core.specs.Pool.{state_of}
 use Rattle.pool_core.proofs.BegunLemmas.{waiting_count}
@@ -20,14 +21,11 @@ overflow_sub-result c =
     let left = waiting_count c.nodes-nodes.result.now c.sort_out.new.waiting.entries c.sort_out.ensures.waiting in
     omega (arith, closed_length c.nodes-nodes.result.now, left, c.len-open.ensures)
 
-job_of : goal.After-len-open → Job
-job_of c = record { instance = c.job.inside.instance; gap = c.job.inside.gap; budget = c.job.inside.budget; pool = c.job.inside.pool; start = c.job.inside.start }
-
 after : goal.After-len-open → Inside
 after c = record { job = c.in_ok-job.job; waiting = c.sort_out.new.waiting; leased = c.in_ok-leased.leased; log = c.sort_out.new.log; leases = c.args.leases; kept = 0; stop = None; begun_nodes = length c.nodes-nodes.result.now - c.len-open.result; begun_raised = c.len-open.result; begun_leases = c.args.leases }
 
-begins : (c : goal.After-len-open) → IsBegun (job_of c) c.nodes-nodes.result.now c.args.leases (after c)
-unfolding after job_of
+begins : (c : goal.After-len-open) → IsBegun (job_of c.job.inside) c.nodes-nodes.result.now c.args.leases (after c)
+unfolding after
 begins c =
     record {
       job = c.in_ok-job.ensures.cases ∙ sym c.job.view_is;
@@ -46,19 +44,18 @@ begins c =
       begun_leases = refl;
     }
 
-resumable : (c : goal.After-len-open) → IsResumable (job_of c) c.nodes-nodes.result.now c.args.leases
-unfolding job_of
+resumable : (c : goal.After-len-open) → IsResumable (job_of c.job.inside) c.nodes-nodes.result.now c.args.leases
 resumable c =
-    subst (λ (ns : List Node). IsResumable (job_of c) ns c.args.leases) (sym c.nodes-nodes.ensures)
+    subst (λ (ns : List Node). IsResumable (job_of c.job.inside) ns c.args.leases) (sym c.nodes-nodes.ensures)
     (subst (λ (j : Job). IsResumable j c.args.nodes.now c.args.leases) (sym c.job.view_is) c.requires)
 
 pub invariant_of-result : goal.invariant_of-result
-unfolding after job_of
-invariant_of-result c = begun_fits (job_of c) c.nodes-nodes.result.now c.args.leases (after c) c.job.invariant.job (resumable c) (begins c)
+unfolding after
+invariant_of-result c = begun_fits (job_of c.job.inside) c.nodes-nodes.result.now c.args.leases (after c) c.job.invariant.job (resumable c) (begins c)
 
 pub returns : goal.returns
-unfolding after job_of
+unfolding after
 returns c =
     subst (λ (ns : List Node). IsBegunFrom c.args.job.now ns c.args.leases (state_of (after c))) c.nodes-nodes.ensures
     (subst (λ (j : Job). IsBegunFrom j c.nodes-nodes.result.now c.args.leases (state_of (after c))) c.job.view_is
-    (begun_state (job_of c) c.nodes-nodes.result.now c.args.leases (after c) (begins c)))
+    (begun_state (job_of c.job.inside) c.nodes-nodes.result.now c.args.leases (after c) (begins c)))

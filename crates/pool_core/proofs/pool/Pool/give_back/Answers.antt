@@ -1,7 +1,6 @@
-use Rattle.std.proofs.Common.{◌≡◌, ◌+◌, ◌&&◌, ◌||◌, nat_lt, is_some, true, false, Bool, Some, refl, sym, ap, ◌∙◌, arith}
+use Rattle.std.proofs.Common.{◌+◌, true, false, Some, refl, sym, arith}
 use Rattle.std.proofs.lemmas.List.{append-nil}
 use Rattle.pool_core.specs.declared.pool.Pool.TheInside.{Inside}
-use Rattle.pool_core.specs.declared.verdict.Finding.{Finding}
 use Rattle.pool_core.specs.Pool.{state_of}
 use Rattle.pool_core.proofs.Returning.{Did, carry, closed_is, did_fits, did_step, fresh_given, level_given, stop_is}
 use Rattle.pool_core.proofs.pool.Pool.give_back.Goals as goal

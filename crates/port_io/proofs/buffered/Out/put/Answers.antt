@@ -15,7 +15,7 @@ pub loop-at-preserved : goal.loop-at-preserved
 loop-at-preserved g c = record {
   within = omega (arith, c.keep-at.ensures.count, length-drop c.loop-at.at c.args.bytes.now);
   put =
-      let of = stage g.K.Sink.room g.K.Sink.taken g.K.Sink.faults in
+      let of = stage g.K.Sink.room g.K.Sink.taken g.K.Sink.faults g.K.Sink.is_strict in
       let spaced = c.make_space.new.self in
       let after = record spaced { waiting = c.keep-at.new.self } in
       let kept = Put-kept {T = Unit {0}} {E = Unit {0}} {v = tt} (of spaced) (of after) _

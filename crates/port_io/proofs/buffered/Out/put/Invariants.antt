@@ -6,7 +6,7 @@ use Rattle.port_io.proofs.buffered.Out.put.Given as goal
 abbrev pub invariant-loop-at : goal.invariant-loop-at
 invariant-loop-at g l = record {
   within : l.at ≤ length l.bytes;
-  put : PutOn {T = Unit {0}} {E = Unit {0}} g.K.Sink.room g.K.Sink.taken g.K.Sink.faults l.fn.self l.self (take l.at l.bytes) (Ok tt);
+  put : PutOn {T = Unit {0}} {E = Unit {0}} g.K.Sink.room g.K.Sink.taken g.K.Sink.faults g.K.Sink.is_strict l.fn.self l.self (take l.at l.bytes) (Ok tt);
 }
 
 -- each turn puts a byte at least

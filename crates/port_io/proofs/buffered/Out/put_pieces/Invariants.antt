@@ -6,5 +6,5 @@ use Rattle.port_io.proofs.buffered.Out.put_pieces.Given as goal
 -- the pieces before this one were put
 abbrev pub invariant-loop-piece : goal.invariant-loop-piece
 invariant-loop-piece g l =
-    PutOn {T = Unit {0}} {E = Unit {0}} g.K.Sink.room g.K.Sink.taken g.K.Sink.faults l.fn.self l.self
+    PutOn {T = Unit {0}} {E = Unit {0}} g.K.Sink.room g.K.Sink.taken g.K.Sink.faults g.K.Sink.is_strict l.fn.self l.self
     (flat_map piece_text (take l.piece-index l.pieces)) (Ok tt)

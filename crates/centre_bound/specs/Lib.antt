@@ -1,0 +1,4 @@
+pub mod Cut
+pub mod Terms
+pub mod Polished
+pub mod Sizes

@@ -1,0 +1,2 @@
+mod CeilingLemmas
+mod NearLemmas

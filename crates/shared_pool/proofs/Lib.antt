@@ -1,0 +1,8 @@
+pub mod Incumbents
+mod ViewLists
+mod Runs
+mod Moves
+mod IncumbentSteps
+mod TurnSteps
+mod SeatSteps
+mod FirstAndLast

@@ -1,0 +1,45 @@
+-- What the desk of a worker of a team knows between its steps.
+use Rattle.std.specs.Prelude.{◌≡◌, true, IsSome, None, MatchOption, ⊤}
+use Rattle.std.specs.Option.{ForSome}
+use Rattle.siting_definitions.specs.Sites.{centre_cost}
+use Rattle.siting_definitions.specs.Marks.{IsAtMost}
+use Rattle.pool_core.specs.declared.verdict.Verdict.{Verdict}
+use Rattle.shared_pool.specs.declared.desk.Desk.{Desk}
+use Rattle.shared_pool.specs.declared.shared.SharedPool.{SharedPool}
+use Rattle.shared_pool.specs.declared.view.View.{View}
+use Rattle.shared_pool.specs.Calls.{IsCentreSeen, IsFound}
+use Rattle.shared_pool.specs.Desks.{IsDeskOf, view}
+
+-- the desk is at the table, and has no lease
+pub record IsFree (shared : SharedPool) (d : Desk) : Type 0 where
+  pub of : IsDeskOf shared d
+  pub lease : (view d).lease ≡ None
+
+-- it has none, and was told that nothing more will be leased
+pub record HasEnded (shared : SharedPool) (d : Desk) : Type 0 where
+  pub free : IsFree shared d
+  pub ended : (view d).ended ≡ true
+
+-- it has a lease
+pub record HasLease (shared : SharedPool) (d : Desk) : Type 0 where
+  pub of : IsDeskOf shared d
+  pub lease : IsSome (view d).lease
+
+-- what was seen is at most the upper cost of the centre site of the leased square, if it has one
+abbrev pub HasSeenCentre : View → Type 0
+HasSeenCentre v =
+    ForSome v.lease
+    (λ e. MatchOption (centre_cost v.first.job.instance e.square) ⊤ (IsAtMost v.seen))
+
+-- it has a lease, and has seen a number that may part its square
+pub record HasOffered (shared : SharedPool) (d : Desk) : Type 0 where
+  pub lease : HasLease shared d
+  pub centre : HasSeenCentre (view d)
+
+-- it has a lease, and this is the verdict on it for what the desk has seen since it got it
+pub record HasVerdict (shared : SharedPool) (d : Desk) (verdict : Verdict) : Type 0 where
+  pub lease : HasLease shared d
+  pub fresh : (view d).fresh ≡ true
+  pub seen : verdict.seen ≡ (view d).seen
+  pub finding : IsFound (view d) verdict.seen verdict.finding
+  pub centre : IsCentreSeen (view d) verdict.seen verdict.finding
