@@ -1,4 +1,4 @@
-//! Coarse and fine bounds of squares and costs of sites, over 4,096 demand points, against the same formulas in ordinary Rust.
+//! Coarse, fine and centre bounds of squares and costs of sites, over 4,096 demand points, against the same formulas in ordinary Rust.
 
 use crate::numbers::{best_of, Numbers};
 use crate::rows::SquareRow;
@@ -25,6 +25,14 @@ unsafe extern "C" {
         bound_count: usize,
     ) -> bool;
     fn bsss_bench_fine(
+        points: *const PointRow,
+        count: usize,
+        squares: *const SquareRow,
+        square_count: usize,
+        bounds: *mut i64,
+        bound_count: usize,
+    ) -> bool;
+    fn bsss_bench_centre(
         points: *const PointRow,
         count: usize,
         squares: *const SquareRow,
@@ -99,6 +107,33 @@ fn std_fine(points: &[DemandPt], square: SquareRow) -> i64 {
     (total >> 16) as i64
 }
 
+/// The greater of the fine bound and the cut at the square's centre, all four corners in one pass.
+#[inline(never)]
+fn std_centre(points: &[DemandPt], square: SquareRow) -> i64 {
+    let least = std_fine(points, square);
+    if square.level == 0 {
+        return least;
+    }
+    let half = 1i64 << (square.level - 1);
+    let (mut at_centre, mut right, mut upper) = (0i128, 0i64, 0i64);
+    for d in points {
+        if d.w > 0 && d.cutoff.is_none() {
+            let (dx, dy) = (square.x + half - 65536 * d.x as i64, square.y + half - 65536 * d.y as i64);
+            let way = |z: i64| z.unsigned_abs() as u128;
+            let length = ceil_root(way(dx) * way(dx) + way(dy) * way(dy)) as i64;
+            let (ux, uy) = if length == 0 { (0, 0) } else { ((dx << 20) / length, (dy << 20) / length) };
+            at_centre += d.w as i128 * (ux * dx + uy * dy) as i128;
+            right += d.w * ux;
+            upper += d.w * uy;
+        } else {
+            let root = if d.w > 0 { (near2(square, d) << 32).isqrt() } else { ceil_root(far2(square, d) << 32) };
+            at_centre += 16 * d.w as i128 * capped(root, 1 << 32, d.cutoff);
+        }
+    }
+    let cut = at_centre - half as i128 * (right.unsigned_abs() + upper.unsigned_abs()) as i128;
+    least.max((cut >> 20) as i64)
+}
+
 /// The lower cost of the square's corner. The upper one is computed with it.
 #[inline(never)]
 fn std_cost(points: &[DemandPt], square: SquareRow) -> i64 {
@@ -160,6 +195,7 @@ pub fn measure() {
         for (name, ours, theirs) in [
             ("coarse", bsss_bench_coarse as Bounds, std_coarse as fn(&[DemandPt], SquareRow) -> i64),
             ("fine  ", bsss_bench_fine, std_fine),
+            ("centre", bsss_bench_centre, std_centre),
             ("costs ", bsss_bench_cost, std_cost),
         ] {
             let mut bounds = vec![0; squares.len()];

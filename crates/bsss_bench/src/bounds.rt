@@ -3,6 +3,7 @@
 ghost use Rattle.std.specs.Prelude.{◌≡◌, ◌≤◌, length, All, IfSome, unsigned_abs};
 ghost use Rattle.siting_definitions.specs.Instance.{DemandPt};
 
+use centre_bound::centre_bound;
 use convex_region::Polygon;
 use dyadic_square::Square;
 use exact_geometry::Place;
@@ -42,6 +43,7 @@ pub struct SquareRow {
 enum Measure {
     CoarseBound,
     FineBound,
+    CentreBound,
     /// The lower cost of the lower left corner.
     LowerCost,
 }
@@ -66,6 +68,17 @@ pub extern "C" fn bsss_bench_fine(
     bounds: &mut [i64],
 ) -> bool {
     write_values(alloc, Measure::FineBound, points, squares, bounds)
+}
+
+/// Writes the centre bound of each square, and answers whether the rows make an instance and squares.
+#[unsafe(no_mangle)]
+pub extern "C" fn bsss_bench_centre(
+    alloc: Global,
+    points: &[PointRow],
+    squares: &[SquareRow],
+    bounds: &mut [i64],
+) -> bool {
+    write_values(alloc, Measure::CentreBound, points, squares, bounds)
 }
 
 /// Writes the lower cost of the lower left corner of each square, and answers whether the rows make an instance and
@@ -105,6 +118,7 @@ fn value_of(measure: Measure, instance: &Instance, square: Square) -> i64 {
     match measure {
         Measure::CoarseBound => coarse(instance, square),
         Measure::FineBound => fine(instance, square),
+        Measure::CentreBound => centre_bound(instance, square),
         Measure::LowerCost => cost_of(instance, Site::of(square.x, square.y)).0,
     }
 }

@@ -22,9 +22,8 @@ use std::thread::Threads;
 /// Runs the command that the words are: reads from the source what the command reads, and writes
 /// its text to the sink.
 ///
-/// Several workers run on threads of `rt`, wait for one another, and pass the gate. So a return
-/// is promised for no words: `run_alone` promises it, and is called for all words that want one
-/// worker.
+/// Several workers run on threads of `rt`, wait for one another, and pass the gate. So a return is
+/// promised for no words: `run_alone` promises it, and is called for all words that want no team.
 pub fn run<R: Threads + Wait + Sync, S: Source, K: Sink, G: Gate + Sync>(
     rt: &R,
     alloc: Global,

@@ -49,8 +49,8 @@ fn way_on_axis(a: i32, z: i64) -> i64
     z - 65536 * a as i64
 }
 
-/// The direction from a place to a grid point: DIRECTION_LENGTH times the way by its length, which is rounded
-/// up.
+/// The direction from a place to a grid point: DIRECTION_LENGTH times the way by its length,
+/// which is rounded up.
 #[inline(always)]
 pub(crate) fn direction(place: Place, point: Pt) -> Vector
     requires x { IsWithinSquares point.x }

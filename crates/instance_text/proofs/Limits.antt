@@ -4,8 +4,7 @@ use Rattle.std.specs.Prelude.{unsigned_abs}
 use Rattle.std.proofs.lemmas.List.Sums.{sum_by_push}
 use Rattle.siting_definitions.specs.Instance.{DemandPt, weight}
 use Rattle.instance_text.specs.Reading.{Found, nothing_found}
-use Rattle.instance_text.specs.declared.phase.Phase.{Phase}
-use Rattle.instance_text.specs.declared.phase.Phase.TheVariants.{Start, Body, Ended}
+use Rattle.instance_text.specs.Phase.{Phase, Start, Body, Ended}
 use Rattle.instance_text.specs.KeepsLimits.{IsWhole, KeepsLimits}
 
 -- the weight of one more point

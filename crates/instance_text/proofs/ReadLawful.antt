@@ -13,8 +13,7 @@ use Rattle.text_lines.specs.declared.numbers.NumberField.{NumberField}
 use Rattle.text_lines.specs.declared.numbers.NumberField.TheVariants.{NotANumber, Beyond, Value}
 use Rattle.text_lines.specs.Numbers.{number_of, within, HasSize}
 use Rattle.text_lines.specs.Lines.{is_passed_over}
-use Rattle.instance_text.specs.declared.phase.Phase.{Phase}
-use Rattle.instance_text.specs.declared.phase.Phase.TheVariants.{Start, Body, Ended}
+use Rattle.instance_text.specs.Phase.{Phase, Start, Body, Ended}
 use Rattle.convex_region.specs.Convex.{is_convex}
 use Rattle.instance_text.specs.Rows.{kind_row, coordinate_of, weight_of, cutoff_of, above_zero, IsCutoff, demand_of, cut_demand_of, point_row, number_in, place_from, places_of, polygon_of, polygon_row, are_numbers, are_coordinates}
 use Rattle.instance_text.specs.Reading.{Found, nothing_found, take_version, take_header, take_kind, take_point, add_polygon, take_permit, take_forbid, close, in_phase, take_end, take_row, take_fields, take_line, finish, at_line, and_then, read_rows, reading}

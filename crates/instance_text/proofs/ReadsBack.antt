@@ -18,7 +18,7 @@ use Rattle.text_lines.specs.Words.{is_word, are_words, AreWords}
 use Rattle.text_lines.proofs.ReadBack.{rows_of-text_of}
 use Rattle.text_lines.proofs.NumbersBack.{is_word-signed_decimal, number_of-signed_decimal}
 use Rattle.instance_text.specs.declared.faults.InstanceFault.{InstanceFault}
-use Rattle.instance_text.specs.declared.phase.Phase.TheVariants.{Body}
+use Rattle.instance_text.specs.Phase.{Body}
 use Rattle.instance_text.specs.Rows.{coordinate_of, weight_of, cutoff_of, point_row, are_numbers, are_coordinates, places_of, polygon_of, polygon_row}
 use Rattle.instance_text.specs.Reading.{Found, nothing_found, take_row, take_line, read_rows, reading}
 use Rattle.convex_region.proofs.Convexity.{is_convex-iff}

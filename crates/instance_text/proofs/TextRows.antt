@@ -10,7 +10,7 @@ use Rattle.siting_definitions.specs.Point.{Place}
 use Rattle.siting_definitions.specs.Instance.{DemandPt, Instance, weight, IsInstance}
 use Rattle.text_lines.specs.Lines.{is_passed_over}
 use Rattle.text_lines.specs.Words.{rows_of}
-use Rattle.instance_text.specs.declared.phase.Phase.TheVariants.{Body, Ended}
+use Rattle.instance_text.specs.Phase.{Body, Ended}
 use Rattle.instance_text.specs.Rows.{kind_row, point_row, polygon_row}
 use Rattle.instance_text.specs.Reading.{Found, nothing_found, take_version, take_header, take_kind, take_point, add_polygon, take_permit, take_forbid, take_row, take_fields, finish, at_line, and_then, read_rows, reading}
 use Rattle.instance_text.specs.InstanceTexts.{counted_rows, fields_after, header_row, end_row, is_body_row, IsInstanceText}

@@ -1,17 +1,24 @@
 -- What the fields of a reading show, and that it keeps the limits of an instance.
 use Rattle.std.specs.Prelude.{◌≡◌, ℕ, ◌≤◌, length, ⊤}
 use Rattle.siting_definitions.specs.Instance.{weight}
-use Rattle.instance_text.specs.declared.phase.Phase.{Phase}
-use Rattle.instance_text.specs.declared.phase.Phase.TheVariants.{Start, Body, Ended}
+use Rattle.instance_text.specs.Phase.{Phase, Start, Body, Ended}
 use Rattle.siting_definitions.specs.declared.TheConstants.{WEIGHT_LIMIT, POINT_LIMIT, POLYGON_LIMIT}
+use Rattle.instance_text.specs.declared.phase.Phase.{Phase as Coded}
+use Rattle.instance_text.specs.declared.phase.Phase.TheVariants as coded
 use Rattle.instance_text.specs.declared.reading.Reading.TheInside.{Inside}
 use Rattle.instance_text.specs.Reading.{Found}
+
+-- the phase that the code's says
+abbrev pub phase_of : Coded → Phase
+phase_of coded.Start = Start
+phase_of (coded.Body cutoffs) = Body cutoffs
+phase_of (coded.Ended kind) = Ended kind
 
 -- what was found
 abbrev pub found_of : Inside → Found
 found_of a =
     record {
-      phase = a.phase;
+      phase = phase_of a.phase;
       kind = a.kind;
       points = a.points.items;
       permitted = a.permitted.items;

@@ -1,3 +1,4 @@
+pub mod Phase
 pub mod Rows
 pub mod Reading
 pub mod KeepsLimits

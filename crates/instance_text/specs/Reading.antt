@@ -16,8 +16,7 @@ use Rattle.instance_text.specs.declared.faults.TheConstants.{BAD_HEADER, BAD_LIN
 use Rattle.instance_text.specs.declared.faults.TheConstants.{WEIGHT_SUM, TOO_MANY_POLYGONS}
 use Rattle.instance_text.specs.declared.faults.TheConstants.{NO_KIND, TWO_KINDS, NO_POINT}
 use Rattle.instance_text.specs.declared.faults.TheConstants.{NO_PERMIT, NO_END, AFTER_END}
-use Rattle.instance_text.specs.declared.phase.Phase.{Phase}
-use Rattle.instance_text.specs.declared.phase.Phase.TheVariants.{Start, Body, Ended}
+use Rattle.instance_text.specs.Phase.{Phase, Start, Body, Ended}
 use Rattle.instance_text.specs.Rows.{kind_row, point_row, polygon_row}
 
 -- what the lines say that were read

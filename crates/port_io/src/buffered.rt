@@ -36,7 +36,8 @@ pub enum Piece<'a> {
     Number(i64),
 }
 
-/// Output to a sink through a buffer of 4,096 bytes. It takes no memory.
+/// Output to a sink through a buffer of 4,096 bytes. It takes no memory. As long as fewer bytes
+/// wait than the buffer holds, nothing goes to the sink.
 ///
 /// No call may follow one that failed. After `finish` answered `Ok` the sink has taken all that
 /// was put. Where a call answers `WriteFault`, the sink's count of faults rose in it, and the

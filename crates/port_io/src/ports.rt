@@ -11,7 +11,8 @@ pub struct Failed;
 /// Where bytes come from.
 ///
 /// A source has the bytes that are left, where it tells them, and a count of faults that never
-/// falls. Where it does not tell them, a read of 0 bytes is taken as the end.
+/// falls. Where it does not tell them, a read of 0 bytes is taken as the end. A strict source
+/// counts no fault in a call that doesn't fail.
 pub trait Source {
     /// The bytes that are left, where the source tells them.
     ghost left: { Self → Option (List ℕ) };
@@ -35,10 +36,10 @@ pub trait Source {
 
 /// Where bytes go.
 ///
-/// A sink has the bytes that it took, where it tells them, and a count of faults that never
-/// falls. One that tells its bytes after a call also told them before that call. Its room, if it
-/// has one, is how many bytes it tells at most: it tells what it took exactly as long as that fits
-/// its room.
+/// A sink has the bytes that it took, where it tells them, and a count of faults that never falls;
+/// a strict one counts none in a call that doesn't fail. One that tells its bytes after a call also
+/// told them before that call. Its room, if it has one, is how many bytes it tells at most:
+/// one that tells at first tells what it took exactly as long as that fits its room.
 pub trait Sink {
     /// How many bytes the sink tells at most, if there is a limit.
     ghost room: { Self → Option ℕ };

@@ -19,9 +19,9 @@ use std::thread::Threads;
 const MOST_PARTS: usize = 64;
 
 /// The answer that `finish` gives, where so many workers mark the leaves: the fine bound of each
-/// leaf takes most of the time. The nodes are cut into four parts a worker, since parts of one
-/// length don't take the same time. It takes no memory. Where no thread can be made the parts are
-/// marked one after another.
+/// leaf takes most of the time. The nodes are cut into four parts a worker, at most 64 in all,
+/// since parts of one length don't take the same time. It takes no memory. Where no thread can be
+/// made the parts are marked one after another.
 pub fn finish_by_workers<R: Threads + Sync>(
     rt: &R,
     job: Job,

@@ -1,0 +1,79 @@
+-- Answers that go on from one another, one after the other.
+use Rattle.std.proofs.Common.{◌≡◌, ℕ, zero, suc, ◌+◌, ◌<◌, ℤ, Bool, true, false, cond, List, [], ◌∷◌, filter, Option, None, Some, refl, sym, ap, ◌∙◌, subst, ◌⊎◌, inl, inr, length, arith}
+use Rattle.std.specs.Prelude.{All, Contains, MatchOption, ⊤}
+use Rattle.std.proofs.lemmas.Bool.{cases_Bool, cond-true, cond-false}
+use Rattle.std.proofs.lemmas.List.Elements.{All-contains, All-contains_itself}
+use Rattle.siting_definitions.specs.Marks.{IsAtMost, is_split}
+use Rattle.siting_definitions.specs.Answer.{Best, Answer, IsValid, upper_cost}
+use Rattle.siting_definitions.proofs.Integers.{le_refl_ℤ, le_trans_ℤ}
+use Rattle.discard_log.specs.declared.node.Node.{Node}
+use Rattle.answer_model.specs.Nodes.{nodes_of}
+use Rattle.pool_core.proofs.BegunLemmas.{All-passed}
+use Rattle.resume_job.specs.Resumed.{AreResumed, GoesOn, last_of}
+use Rattle.resume_job.proofs.GrownLemmas.{IsNoHigher, no_higher_trans}
+
+-- no cost before, or one after that is at most it
+cost_refl : (u : Option ℤ) → MatchOption u ⊤ (IsAtMost u)
+cost_refl None = tt
+cost_refl (Some n) = le_refl_ℤ n
+
+cost_trans : (a b c : Option ℤ) → MatchOption a ⊤ (IsAtMost b) → MatchOption b ⊤ (IsAtMost c) → MatchOption a ⊤ (IsAtMost c)
+cost_trans None b c h k = tt
+cost_trans (Some l) None c h k = absurd h
+cost_trans (Some l) (Some m) None h k = absurd k
+cost_trans (Some l) (Some m) (Some n) h k = le_trans_ℤ n m l k h
+
+bound_refl : (o : Option ℤ) → IsNoHigher o o
+bound_refl None = tt
+bound_refl (Some n) = le_refl_ℤ n
+
+-- ---- nodes that are kept
+-- the nodes that pass a test are among the nodes
+pub passed_there : {X : Type 0} (p : X → Bool) (xs : List X) → All (Contains xs) (filter p xs)
+passed_there p xs = All-passed p (Contains xs) (Contains xs) (λ x said at. at) xs (All-contains_itself xs)
+
+-- each that passes is among those that pass
+pub passing : {X : Type 0} (p : X → Bool) (x : X) → p x ≡ true → (ys : List X) → Contains ys x → Contains (filter p ys) x
+passing p x said [] (k, h, e) = absurd (omega arith)
+passing p x said (y ∷ ys) (zero, h, e) = rw (cond-true (p y) (y ∷ filter p ys) (filter p ys) (ap p e ∙ said)) (0, omega arith, e)
+passing {X = X} p x said (y ∷ ys) (suc k, h, e) = by_test (passing p x said ys (k, omega arith, e)) (cases_Bool (p y))
+  where
+    by_test : Contains (filter p ys) x → ((p y ≡ true) ⊎ (p y ≡ false)) → Contains (filter p (y ∷ ys)) x
+    by_test at (inl here) = rw (cond-true (p y) (y ∷ filter p ys) (filter p ys) here) (suc at.0, (let lt = at.1 in omega arith), at.2)
+    by_test at (inr gone) = rw (cond-false (p y) (y ∷ filter p ys) (filter p ys) gone) at
+
+pub passes : {X : Type 0} (p : X → Bool) (xs : List X) → All (λ x. p x ≡ true) (filter p xs)
+passes p xs = All-passed p (λ x. ⊤) (λ x. p x ≡ true) (λ x said any. said) xs (λ k d within. tt)
+
+kept_on : {X : Type 0} (p : X → Bool) (xs ys zs : List X) → All (Contains ys) (filter p xs) → All (Contains zs) (filter p ys) → All (Contains zs) (filter p xs)
+kept_on p xs ys zs h k =
+    λ i d within. All-contains (Contains zs) (filter p ys) _ k (passing p _ (passes p xs i d within) ys (h i d within))
+
+-- ---- answers
+goes_on_refl : (a : Answer) → IsValid a → GoesOn a a
+goes_on_refl a valid =
+    record {
+      valid = valid;
+      instance = refl;
+      gap = refl;
+      cost = cost_refl (upper_cost a.head.best);
+      bound = bound_refl a.head.bound;
+      splits = passed_there (λ (n : Node). is_split n.mark) (nodes_of a);
+    }
+
+goes_on_trans : (a b c : Answer) → GoesOn a b → GoesOn b c → GoesOn a c
+goes_on_trans a b c h k =
+    record {
+      valid = k.valid;
+      instance = k.instance ∙ h.instance;
+      gap = k.gap ∙ h.gap;
+      cost = cost_trans (upper_cost a.head.best) (upper_cost b.head.best) (upper_cost c.head.best) h.cost k.cost;
+      bound = no_higher_trans a.head.bound b.head.bound c.head.bound h.bound k.bound;
+      splits = kept_on (λ (n : Node). is_split n.mark) (nodes_of a) (nodes_of b) (nodes_of c) h.splits k.splits;
+    }
+
+-- the last of answers that are resumed in turn goes on from the first
+pub goes_on_in_turn : (a : Answer) (rs : List (ℕ × ℕ × Answer)) → IsValid a → AreResumed a rs → GoesOn a (last_of a rs)
+goes_on_in_turn a [] valid resumed = goes_on_refl a valid
+goes_on_in_turn a (r ∷ rs) valid resumed =
+    goes_on_trans a r.2 (last_of r.2 rs) resumed.0.goes_on (goes_on_in_turn r.2 rs resumed.0.goes_on.valid resumed.1)

@@ -1,0 +1,4 @@
+pub mod Loading
+pub mod Reopening
+pub mod Resumed
+pub mod Steps
