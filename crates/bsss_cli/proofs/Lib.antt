@@ -1,4 +1,5 @@
 mod OutcomeLemmas
 mod SolveLemmas
 mod CheckLemmas
+mod TrialLemmas
 mod CommandLemmas

@@ -74,17 +74,16 @@ Says-something whole said =
 
 Ended-whole : {K : Type 0} (k : SinkGhosts K) (p : Promise) (told : Option (List ℕ))
     (before after : K) (says : Status) (text : List ℕ) → (meaning_of says).taken ≡ Whole
-    → (HasReadAll says → p.reads ≡ true) → p.answers told says text
+    → p.answers told says text
     → Took (k.room before) (k.taken before) (k.taken after) text → KeepsSink k before after says
     → Ended k p told before after says
-Ended-whole k p told before after says text whole read answers took kept =
+Ended-whole k p told before after says text whole answers took kept =
     record {
       written = subst (λ (t : Extent). WritesSo t p told (view k before) (view k after) says)
           (sym whole) (record { text = text; answers = answers; took = took });
       unwritten = λ e. absurd (nothing≢whole (sym e ∙ whole));
       write_fault = λ e. absurd (front≢whole (whole_is says WriteFault whole e));
       no_read_fault = λ e. nothing≢whole (whole_is says ReadFault whole e);
-      read = read;
       memory = λ e. absurd (nothing≢whole (whole_is says NoMemory whole e));
       sink = kept;
     }
@@ -100,7 +99,6 @@ Ended-front k p told before after says text answers took rose kept =
       unwritten = λ e. absurd cc;
       write_fault = λ e. rose;
       no_read_fault = λ e. absurd (omega (arith, ap code_of e));
-      read = λ h. absurd (false≢true h);
       memory = λ e. absurd (omega (arith, ap code_of e));
       sink = kept;
     }
@@ -108,16 +106,15 @@ Ended-front k p told before after says text answers took rose kept =
 -- a run that says what it promised ends as it promised
 pub Ended-says : {K : Type 0} {k : SinkGhosts K} {before after : K} {says : Status}
     {text : List ℕ} {status : Status} (p : Promise) (told : Option (List ℕ))
-    → (meaning_of says).taken ≡ Whole → (HasReadAll says → p.reads ≡ true)
-    → p.answers told says text → Says k before after says text status
+    → (meaning_of says).taken ≡ Whole → p.answers told says text → Says k before after says text status
     → Ended k p told before after status
 Ended-says {k = k} {before = before} {after = after} {says = says} {text = text} {status = status}
-    p told whole read answers said =
+    p told whole answers said =
     let Kept : Status → Type 0 = λ s. KeepsSink k before after s in
     let Goal : Status → Type 0 = λ s. Ended k p told before after s in
     ⊎_elim
     (λ all. subst Goal (sym all.0)
-    (Ended-whole k p told before after says text whole read answers all.1
+    (Ended-whole k p told before after says text whole answers all.1
     (subst Kept all.0 said.sink)))
     (λ cut. subst Goal (sym cut.0)
     (Ended-front k p told before after says text answers cut.1 cut.2
@@ -132,7 +129,6 @@ Ended-no_memory k p told sink takes =
       unwritten = λ e. refl;
       write_fault = λ e. absurd (omega (arith, ap code_of e));
       no_read_fault = λ e. absurd (omega (arith, ap code_of e));
-      read = λ h. absurd (false≢true h);
       memory = λ e. takes;
       sink = same_sink k sink NoMemory;
     }
@@ -169,7 +165,7 @@ Ran-unread {s = s} {status = status} p source unread ended =
       sink = ended.sink;
       reader = λ e. absurd (ended.no_read_fault e);
       unread = λ e. refl;
-      read = λ h. absurd (false≢true (sym unread ∙ ended.read h));
+      read = λ reads h. absurd (false≢true (sym unread ∙ reads));
       stops = λ e. absurd (false≢true (sym unread ∙ e));
       read_fault = λ e. absurd (ended.no_read_fault e);
       source = same_source s source status;
@@ -179,13 +175,11 @@ Ran-unread {s = s} {status = status} p source unread ended =
 -- a command that refuses says so
 pub Ran-refusal : {S K : Type 0} {s : SourceGhosts S} {k : SinkGhosts K} {before after : K}
     {says : Status} {text : List ℕ} {status : Status} (source : S)
-    → (meaning_of says).taken ≡ Whole → (meaning_of says).read_all ≡ false
-    → Says k before after says text status
+    → (meaning_of says).taken ≡ Whole → Says k before after says text status
     → Ran s k (refusal says text) source source before after status
-Ran-refusal {s = s} {says = says} {text = text} source whole unread said =
+Ran-refusal {s = s} {says = says} {text = text} source whole said =
     Ran-unread (refusal says text) source refl
-    (Ended-says (refusal says text) (s.left source) whole
-    (λ h. absurd (false≢true (sym unread ∙ h))) (refl, refl) said)
+    (Ended-says (refusal says text) (s.left source) whole (refl, refl) said)
 
 -- A command that reads did not fail in it, and ended: what was read, and how it ended.
 pub Ran-read : {S K : Type 0} {s : SourceGhosts S} {k : SinkGhosts K} {before after : K}
@@ -203,7 +197,7 @@ Ran-read p source rest reads kept read stops ended =
       sink = ended.sink;
       reader = λ e. reads;
       unread = λ e. absurd (false≢true (sym e ∙ reads));
-      read = read;
+      read = λ e. read;
       stops = λ e. stops;
       read_fault = λ e. absurd (ended.no_read_fault e);
       source = kept;
@@ -231,7 +225,7 @@ pub Ran-says : {S K : Type 0} {s : SourceGhosts S} {k : SinkGhosts K} {before af
     → Ran s k p source rest before after status
 Ran-says {s = s} p source rest reads kept whole read stops answers said =
     Ran-read p source rest reads kept (λ h. read (read_as_said said h)) stops
-    (Ended-says p (s.left source) whole (λ h. reads) answers said)
+    (Ended-says p (s.left source) whole answers said)
 
 pub Ran-read_fault : {S K : Type 0} {s : SourceGhosts S} {k : SinkGhosts K} (p : Promise)
     (source rest : S) (sink : K) → p.reads ≡ true → KeepsSource s source rest ReadFault
@@ -246,7 +240,7 @@ Ran-read_fault {k = k} p source rest sink reads kept rose stops =
       sink = same_sink k sink ReadFault;
       reader = λ e. reads;
       unread = λ e. absurd (false≢true (sym e ∙ reads));
-      read = λ h. absurd (false≢true h);
+      read = λ e h. absurd (false≢true h);
       stops = λ e. stops;
       read_fault = λ e. rose;
       source = kept;

@@ -90,7 +90,6 @@ Ended-told {status = status} s bytes told e ended =
       unwritten = ended.unwritten;
       write_fault = ended.write_fault;
       no_read_fault = ended.no_read_fault;
-      read = ended.read;
       memory = ended.memory;
       sink = ended.sink;
     }
@@ -175,14 +174,16 @@ solve_lacks_memory s old new j first sink begun =
     Ran-no_memory (solve s) old new sink refl refl (begun.source NoMemory) (begun.stops NoMemory)
 
 -- ---- what a solve must answer
+-- where something is said of a word, there is one
+pub word_answers : (P : Word → Type 0) (o : Option Word) → MatchOption o ⊥ P → IsTrue (is_some o)
+word_answers P None h = absurd h
+word_answers P (Some word) h = refl
+
 is_answer : (s : Settings) (bytes : List ℕ) (status : Status) (text : List ℕ) (i : Instance) → length bytes ≤ instance_limit → reading bytes ≡ Ok i → SolveAnswers s (Some bytes) status text → IsAnswer status
 is_answer s bytes (BadInstance number line) text i short read h = absurd (ok≢err (reading bytes) i (record { number = number; line = line }) read h.1.1)
 is_answer s bytes TooLong text i short read h = absurd (omega (arith, h.1))
-is_answer s bytes status text i short read h = with_word (meaning_of status).word h
-  where
-    with_word : (o : Option Word) → MatchOption o ⊥ (λ word. Solves s bytes word text) → IsTrue (is_some o)
-    with_word None h = absurd h
-    with_word (Some word) h = refl
+is_answer s bytes status text i short read h =
+    word_answers (λ word. Solves s bytes word text) (meaning_of status).word h
 
 -- each answer of a solve is one that is wanted
 pub solve_wants : (s : Settings) (told : Option (List ℕ)) (status : Status) (text : List ℕ)

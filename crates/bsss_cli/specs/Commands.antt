@@ -2,12 +2,13 @@
 use Rattle.std.specs.Prelude.{Option, Some, None}
 use Rattle.command_line.specs.declared.command.Command.{Command}
 use Rattle.command_line.specs.declared.command.Command.TheVariants.{Solve, Check, Make, Trial}
-use Rattle.bsss_cli.specs.declared.status.Status.TheVariants.{Usage, NotBuilt}
-use Rattle.bsss_cli.specs.Texts.{bad_words, not_built}
+use Rattle.bsss_cli.specs.declared.status.Status.TheVariants.{Usage}
+use Rattle.bsss_cli.specs.Texts.{bad_words}
 use Rattle.bsss_cli.specs.Outcome.{Promise, refusal}
 use Rattle.bsss_cli.specs.Solve.{solve}
 use Rattle.bsss_cli.specs.Check.{check}
 use Rattle.bsss_cli.specs.Make.{make}
+use Rattle.bsss_cli.specs.Trial.{trial}
 
 -- the table of the commands; None is for words that are no command
 abbrev pub promise_of : Option Command → Promise
@@ -15,4 +16,4 @@ promise_of None = refusal Usage bad_words
 promise_of (Some (Solve s)) = solve s
 promise_of (Some Check) = check
 promise_of (Some (Make seed points)) = make seed points
-promise_of (Some (Trial seed points s)) = refusal NotBuilt not_built
+promise_of (Some (Trial seed points s)) = trial seed points s

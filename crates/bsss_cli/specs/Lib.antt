@@ -6,4 +6,5 @@ pub mod Solve
 pub mod Begun
 pub mod Check
 pub mod Make
+pub mod Trial
 pub mod Commands

@@ -85,7 +85,6 @@ pub record Ended {K : Type 0} (k : SinkGhosts K) (p : Promise) (told : Option (L
   pub unwritten : HasWrittenNothing status → after ≡ before
   pub write_fault : status ≡ WriteFault → Rose (k.faults before) (k.faults after)
   pub no_read_fault : status ≢ ReadFault
-  pub read : HasReadAll status → p.reads ≡ true
   pub memory : status ≡ NoMemory → p.takes_memory ≡ true
   pub sink : KeepsSink k before after status
 
@@ -108,7 +107,7 @@ pub record Ran {S K : Type 0} (s : SourceGhosts S) (k : SinkGhosts K) (p : Promi
   -- what was read
   pub reader : status ≡ ReadFault → p.reads ≡ true
   pub unread : p.reads ≡ false → new_source ≡ old_source
-  pub read : HasReadAll status
+  pub read : p.reads ≡ true → HasReadAll status
       → IfSome (s.left old_source) (λ bytes. s.left new_source ≡ Some [])
   pub stops : p.reads ≡ true
       → IfSome (s.left old_source)

@@ -3,7 +3,7 @@ use Rattle.std.specs.Prelude.{◌≡◌, ◌≢◌, ℕ, Bool, true, false, is_s
 use Rattle.siting_definitions.specs.declared.Word.{Word}
 use Rattle.siting_definitions.specs.declared.Word.TheVariants as words
 use Rattle.bsss_cli.specs.declared.status.Status.{Status}
-use Rattle.bsss_cli.specs.declared.status.Status.TheVariants.{Solved, Accepted, Made, Usage, NotBuilt, BadInstance, Rejected, ReadFault, WriteFault, NoMemory, TooLong, PoolFull, Budget, Floor, Empty}
+use Rattle.bsss_cli.specs.declared.status.Status.TheVariants.{Solved, Accepted, Made, Usage, BadInstance, Rejected, ReadFault, WriteFault, NoMemory, TooLong, PoolFull, Budget, Floor, Empty}
 
 -- how much of the text of a run its sink took
 pub data Extent : Type 0 where
@@ -16,7 +16,7 @@ pub record Meaning : Type 0 where
   pub code : ℕ
   -- how much of its text the sink took
   pub taken : Extent
-  -- whether it comes only after the source was read to its end
+  -- whether a command that reads answers it only after the source was read to its end
   pub read_all : Bool
   -- the last word of the answer that was written, where it is an answer's status
   pub word : Option Word
@@ -32,7 +32,6 @@ meaning_of Accepted = meaning 0 Whole true None
 meaning_of Made = meaning 0 Whole false None
 meaning_of Usage = meaning 2 Whole false None
 meaning_of (BadInstance number line) = meaning 3 Whole true None
-meaning_of NotBuilt = meaning 4 Whole false None
 meaning_of (Rejected fault) = meaning 5 Whole false None
 meaning_of ReadFault = meaning 6 Nothing false None
 meaning_of WriteFault = meaning 7 Front false None
@@ -47,7 +46,7 @@ meaning_of Empty = meaning 13 Whole true (Some words.Empty)
 abbrev pub code_of : Status → ℕ
 code_of status = (meaning_of status).code
 
--- a status that comes only after the source was read to its end
+-- a status that a command that reads answers only after the source was read to its end
 abbrev pub HasReadAll : Status → Type 0
 HasReadAll status = IsTrue (meaning_of status).read_all
 

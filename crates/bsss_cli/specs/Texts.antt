@@ -11,9 +11,6 @@ instance_limit = 1048576
 abbrev pub bad_words : List ℕ
 bad_words = codes "bad words\n"
 
-abbrev pub not_built : List ℕ
-not_built = codes "not built\n"
-
 abbrev pub too_long : List ℕ
 too_long = codes "too long\n"
 

@@ -3,3 +3,4 @@
 pub(crate) mod check;
 pub(crate) mod make;
 pub(crate) mod solve;
+pub(crate) mod trial;

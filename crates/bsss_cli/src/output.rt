@@ -1,25 +1,29 @@
 //! What the program writes to its sink: short texts, an instance, an answer. Each says a status.
 
-ghost use Rattle.std.specs.Prelude.{◌≡◌, ◌++◌, codes, map};
-ghost use Rattle.port_io.specs.Output.{Wrote, sink_view};
+ghost use Rattle.std.specs.Prelude.{◌≡◌, ◌≤◌, ◌++◌, [], ◌∷◌, pos, codes, map};
+ghost use Rattle.std.specs.Fmt.{signed_decimal};
+ghost use Rattle.port_io.specs.Output.{IsOpen, PutOn, Wrote, sink_view};
 ghost use Rattle.port_io.specs.Output as outputs;
 ghost use Rattle.siting_definitions.specs.InstanceText.{instance_text};
-ghost use Rattle.siting_definitions.specs.AnswerText.{answer_text};
+ghost use Rattle.siting_definitions.specs.Line.{text_of};
+ghost use Rattle.siting_definitions.specs.AnswerText.{answer_text, number_line, word_field};
 ghost use Rattle.discard_log.specs.Nodes.{mark_of};
 ghost use Rattle.bsss_cli.specs.Texts as texts;
 ghost use Rattle.bsss_cli.specs.Texts.{bad_instance, rejected};
 ghost use Rattle.bsss_cli.specs.Status as statuses;
+ghost use Rattle.bsss_cli.specs.Trial.{summary_lines};
 ghost use Rattle.bsss_cli.specs.Ports.{sink_ghosts};
 ghost use Rattle.bsss_cli.specs.Outcome.{Says};
 
 use crate::status::{Status, report, status_of};
 use answer_model::Head;
 use cert_checker::{CheckFault, Differ};
-use certificate::write_answer;
+use certificate::{word_bytes, write_answer, write_best, write_bound};
 use discard_log::NodeList;
 use instance_text::{InstanceFault, write_instance};
 use port_io::{Out, Piece, Sink, WriteFault};
 use site_model::Instance;
+use siting_definitions::Word;
 
 /// Writes a text, to say a status.
 pub(crate) fn say<K: Sink>(text: &[u8], status: Status, sink: &mut K) -> Status
@@ -65,6 +69,23 @@ pub(crate) fn say_answer<K: Sink>(head: &Head, nodes: &NodeList, sink: &mut K) -
 {
     let status = status_of(head.word);
     report(put_answer(head, nodes, sink), status)
+}
+
+/// Writes the summary of a trial, with the status of its answer's word.
+pub(crate) fn say_summary<K: Sink>(
+    seed: u32,
+    points: u32,
+    head: &Head,
+    nodes: u64,
+    sink: &mut K,
+) -> Status
+    requires { nodes ≤ 4000001 }
+    ensures { Says (sink_ghosts K.room K.taken K.faults K.is_strict)
+        sink.old sink.new (statuses.status_of head.now.word)
+        (text_of (summary_lines seed points head.now nodes)) result }
+{
+    let status = status_of(head.word);
+    report(put_summary(seed, points, head, nodes, sink), status)
 }
 
 /// Writes a text.
@@ -181,7 +202,11 @@ fn put_instance<K: Sink>(instance: &Instance, sink: &mut K) -> Result<(), WriteF
 }
 
 /// Writes an answer.
-fn put_answer<K: Sink>(head: &Head, nodes: &NodeList, sink: &mut K) -> Result<(), WriteFault>
+pub(crate) fn put_answer<K: Sink>(
+    head: &Head,
+    nodes: &NodeList,
+    sink: &mut K,
+) -> Result<(), WriteFault>
     ensures { Wrote (sink_view K.room K.taken K.faults K.is_strict sink.old)
         (sink_view K.room K.taken K.faults K.is_strict sink.new)
         (answer_text (record { head = head.now; marks = map mark_of nodes.now })) result }
@@ -189,4 +214,92 @@ fn put_answer<K: Sink>(head: &Head, nodes: &NodeList, sink: &mut K) -> Result<()
     let mut out = Out::new(sink);
     write_answer(head, nodes, &mut out)?;
     out.finish()
+}
+
+/// Writes the summary of a trial.
+fn put_summary<K: Sink>(
+    seed: u32,
+    points: u32,
+    head: &Head,
+    nodes: u64,
+    sink: &mut K,
+) -> Result<(), WriteFault>
+    requires { nodes ≤ 4000001 }
+    ensures { Wrote (sink_view K.room K.taken K.faults K.is_strict sink.old)
+        (sink_view K.room K.taken K.faults K.is_strict sink.new)
+        (text_of (summary_lines seed points head.now nodes)) result }
+{
+    let mut out = Out::new(sink);
+    write_summary(seed, points, head, nodes, &mut out)?;
+    out.finish()
+}
+
+/// Puts the summary of a trial.
+fn write_summary<K: Sink>(
+    seed: u32,
+    points: u32,
+    head: &Head,
+    nodes: u64,
+    out: &mut Out<K>,
+) -> Result<(), WriteFault>
+    requires open { IsOpen out.old }
+    requires nodes { nodes ≤ 4000001 }
+    ensures { PutOn K.room K.taken K.faults K.is_strict out.old out.new
+        (text_of (summary_lines seed points head.now nodes)) result }
+{
+    write_trial(seed, points, head.word, out)?;
+    write_best(head.site, head.cost, out)?;
+    write_bound(head.bound, out)?;
+    write_counts(head.leases, nodes as u32, out)
+}
+
+/// Puts the words' values of a trial, and the word of its answer.
+fn write_trial<K: Sink>(
+    seed: u32,
+    points: u32,
+    word: Word,
+    out: &mut Out<K>,
+) -> Result<(), WriteFault>
+    requires { IsOpen out.old }
+    ensures { PutOn K.room K.taken K.faults K.is_strict out.old out.new
+        (text_of ((codes "trial" ∷ signed_decimal (pos seed) ∷ signed_decimal (pos points) ∷ [])
+        ∷ (codes "answer" ∷ word_field word ∷ [])
+        ∷ [])) result }
+{
+    out.put_pieces(&[
+        Piece::Text(b"trial "),
+        Piece::Number(i64::from(seed)),
+        Piece::Text(b" "),
+        Piece::Number(i64::from(points)),
+        Piece::Text(b"\nanswer "),
+        Piece::Text(word_bytes(word)),
+        Piece::Text(b"\n"),
+    ])
+}
+
+/// Puts the leases and the nodes of an answer, and that it was accepted.
+fn write_counts<K: Sink>(leases: u32, nodes: u32, out: &mut Out<K>) -> Result<(), WriteFault>
+    requires { IsOpen out.old }
+    ensures { PutOn K.room K.taken K.faults K.is_strict out.old out.new
+        (text_of (number_line (codes "leases") leases
+        ∷ number_line (codes "nodes") nodes
+        ∷ (codes "check" ∷ codes "accepted" ∷ [])
+        ∷ [])) result }
+{
+    write_count(b"leases ", leases, out)?;
+    write_count(b"nodes ", nodes, out)?;
+    out.put(b"check accepted\n")
+}
+
+/// Writes the line of a number, after its word.
+fn write_count<K: Sink>(word: &[u8], count: u32, out: &mut Out<K>) -> Result<(), WriteFault>
+    requires { IsOpen out.old }
+    ensures { PutOn K.room K.taken K.faults K.is_strict out.old out.new
+        (word.now ++ (signed_decimal (pos count) ++ codes "\n")) result }
+{
+    out.put_pieces(&[
+        Piece::Text(word),
+        Piece::Number(i64::from(count)),
+        Piece::Text(b"\n"),
+    ])
 }

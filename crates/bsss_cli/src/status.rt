@@ -18,8 +18,6 @@ pub enum Status {
     Made,
     /// The words are no lawful command.
     Usage,
-    /// The words are lawful, and this command isn't built yet.
-    NotBuilt,
     /// The bytes are no instance text.
     BadInstance {
         /// Which fault, 1 to 17.
@@ -56,7 +54,6 @@ impl Status {
             Status::Solved | Status::Accepted | Status::Made => 0,
             Status::Usage => 2,
             Status::BadInstance { .. } => 3,
-            Status::NotBuilt => 4,
             Status::Rejected(_) => 5,
             Status::ReadFault => 6,
             Status::WriteFault => 7,

@@ -7,6 +7,7 @@ mod limits;
 mod refusals;
 mod solves;
 mod teams;
+mod trials;
 
 use crate::{Argv, GapRule, OpenGate, Status, gap_of, run};
 use cert_checker::CheckFault;
@@ -100,7 +101,6 @@ fn each_status_has_its_code(rt: HostRuntime) {
         (Status::Made, 0),
         (Status::Usage, 2),
         (Status::BadInstance { number: 1, line: 1 }, 3),
-        (Status::NotBuilt, 4),
         (Status::Rejected(fault), 5),
         (Status::ReadFault, 6),
         (Status::WriteFault, 7),

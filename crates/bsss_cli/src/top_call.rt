@@ -10,6 +10,7 @@ ghost use Rattle.bsss_cli.specs.Commands.{promise_of};
 use crate::commands::check::run_check;
 use crate::commands::make::run_make;
 use crate::commands::solve::{run_solve, run_solve_by_team};
+use crate::commands::trial::run_trial;
 use crate::output::say;
 use crate::status::Status;
 use command_line::{Argv, Command, parse_words, wants_team};
@@ -104,6 +105,12 @@ fn run_command<S: Source, K: Sink>(
         Some(Command::Solve(settings)) => { run_solve(alloc, settings, source, sink) }
         Some(Command::Check) => run_check(alloc, source, sink),
         Some(Command::Make { seed, points }) => run_make(alloc, seed, points, sink),
-        Some(Command::Trial { .. }) => say(b"not built\n", Status::NotBuilt, sink),
+        Some(
+            Command::Trial {
+                seed,
+                points,
+                settings,
+            },
+        ) => run_trial(alloc, seed, points, settings, sink),
     }
 }

@@ -119,8 +119,9 @@ fn write_priced<K: Sink>(
     ])
 }
 
-/// Writes the site and its costs, where there is one.
-fn write_best<K: Sink>(
+/// Puts the lines of the site, in grid units, and of its lower and upper cost, in cost units, each
+/// with `none` where there is no site.
+pub fn write_best<K: Sink>(
     site: Option<Site>,
     cost: Option<(i64, i64)>,
     out: &mut Out<K>,
@@ -135,8 +136,8 @@ fn write_best<K: Sink>(
     }
 }
 
-/// Writes the bound.
-fn write_bound<K: Sink>(bound: Option<i64>, out: &mut Out<K>) -> Result<(), WriteFault>
+/// Puts the line of the bound, in cost units, with `none` where there is none.
+pub fn write_bound<K: Sink>(bound: Option<i64>, out: &mut Out<K>) -> Result<(), WriteFault>
     requires { IsOpen out.old }
     ensures { PutOn K.room K.taken K.faults K.is_strict out.old out.new
         (line_text (optional_line (codes "bound") bound)) result }
@@ -148,7 +149,7 @@ fn write_bound<K: Sink>(bound: Option<i64>, out: &mut Out<K>) -> Result<(), Writ
 }
 
 /// The word as it is written.
-fn word_bytes(word: Word) -> &'static [u8]
+pub fn word_bytes(word: Word) -> &'static [u8]
     ensures { result.now ≡ word_field word }
 {
     match word {

@@ -1,5 +1,5 @@
 -- The ranges of a command's numbers, and which command wants a team.
-use Rattle.std.specs.Prelude.{ℕ, ◌^◌, ◌≤◌, nat_le, Bool, false, pos, ◌≤ℤ◌, ⊤, Option, Some}
+use Rattle.std.specs.Prelude.{◌≡◌, ℕ, ◌^◌, ◌≤◌, nat_le, Bool, false, pos, ◌≤ℤ◌, ⊤, Option, Some}
 use Rattle.siting_definitions.specs.declared.GapRule.{GapRule}
 use Rattle.siting_definitions.specs.declared.GapRule.TheVariants.{Fixed, Ppm}
 use Rattle.command_line.specs.declared.command.Settings.{Settings}
@@ -23,12 +23,12 @@ pub record IsMaking (seed points : ℕ) : Type 0 where
   pub seed_most : seed ≤ 2147483647
   pub points_range : (1 ≤ points) × (points ≤ 4096)
 
--- the numbers of a command are in their ranges
+-- the numbers of a command are in their ranges, and a trial has one worker
 abbrev pub IsCommand : Command → Type 0
 IsCommand (Solve s) = IsSettings s
 IsCommand Check = ⊤
 IsCommand (Make seed points) = IsMaking seed points
-IsCommand (Trial seed points s) = IsMaking seed points × IsSettings s
+IsCommand (Trial seed points s) = IsMaking seed points × IsSettings s × (s.workers ≡ 1)
 
 -- whether the command wants a team of two workers or more
 abbrev pub has_team : Option Command → Bool

@@ -37,7 +37,7 @@ trial_of words =
     ∷ codes "gap=" ∷ codes "ppm=" ∷ codes "budget=" ∷ codes "pool=" ∷ [])
     words
     (option_and_then (λ seed. option_and_then (λ points.
-    option_map (Trial seed points)
+    option_map (λ s. Trial seed points (record s { workers = 1 }))
     (settings_of words)) (points_of words)) (seed_of words))
 
 -- the command that the words are, or none; the order of the words after the first doesn't count

@@ -130,7 +130,10 @@ fn parse_trial(words: &Argv) -> Option<Command>
     Some(Command::Trial {
         seed,
         points,
-        settings,
+        settings: Settings {
+            workers: 1,
+            ..settings
+        },
     })
 }
 

@@ -127,7 +127,11 @@ fn begin_text<K: Sink>(
 }
 
 /// The job of solving an instance, and its pool.
-fn begin_job(alloc: Global, settings: Settings, instance: Instance) -> Result<(Job, Pool), NoMemory>
+pub(crate) fn begin_job(
+    alloc: Global,
+    settings: Settings,
+    instance: Instance,
+) -> Result<(Job, Pool), NoMemory>
     requires { IsSettings settings }
     ensures { IfOk result (λ begun. IsJob settings instance begun.0 begun.1) }
 {

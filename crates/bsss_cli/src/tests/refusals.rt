@@ -35,7 +35,8 @@ fn each_refusal_has_its_text(rt: HostRuntime) -> Result<(), Fail> {
         ("", "", 2, "bad words\n"),
         ("check", "", 5, "rejected 1 line 1\n"),
         ("check gap=1", "", 2, "bad words\n"),
-        ("trial seed=7 points=4", "", 4, "not built\n"),
+        ("trial seed=7", "", 2, "bad words\n"),
+        ("trial seed=7 points=4 workers=1", "", 2, "bad words\n"),
     ];
     for (line, input, code, text) in cases {
         let (ended, sink) = run_words(&rt, rt.alloc(), line, input)?;

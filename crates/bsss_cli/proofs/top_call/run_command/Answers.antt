@@ -3,18 +3,20 @@ use Rattle.command_line.specs.declared.command.Command.{Command}
 use Rattle.command_line.specs.declared.command.Command.TheVariants.{Solve, Check, Make, Trial}
 use Rattle.bsss_cli.specs.Commands.{promise_of}
 use Rattle.bsss_cli.specs.Make.{make}
+use Rattle.bsss_cli.specs.Trial.{trial}
 use Rattle.bsss_cli.proofs.OutcomeLemmas.{Ran-refusal, Ran-unread}
 use Rattle.bsss_cli.proofs.top_call.run_command.Goals as goal
 
 pub returns-in-None : goal.returns-in-None
 returns-in-None g c =
     let command : c.args.command ≡ None = search rules in
-    rw command (Ran-refusal _ refl refl c.say.ensures)
+    rw command (Ran-refusal _ refl c.say.ensures)
 
 pub returns-in-Some-Trial : goal.returns-in-Some-Trial
 returns-in-Some-Trial g c =
-    let command : c.args.command ≡ Some (Trial c.in-Some-Trial.field-0-0 c.in-Some-Trial.field-0-1 c.in-Some-Trial.field-0-2) = search rules in
-    rw command (Ran-refusal _ refl refl c.say-in-Some-Trial.ensures)
+    let t = c.in-Some-Trial in
+    let command : c.args.command ≡ Some (Trial t.seed t.points t.settings) = search rules in
+    rw command (Ran-unread (trial t.seed t.points t.settings) _ refl (c.run_trial.ensures _))
 
 pub returns-in-Some-Make : goal.returns-in-Some-Make
 returns-in-Some-Make g c =

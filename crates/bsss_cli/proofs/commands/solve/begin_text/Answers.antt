@@ -5,5 +5,5 @@ use Rattle.bsss_cli.proofs.commands.solve.begin_text.Goals as goal
 
 pub returns-in-Err-Fault : goal.returns-in-Err-Fault
 returns-in-Err-Fault g c =
-    Ended-says (solve c.args.settings) (Some c.args.bytes.now) refl (λ h. refl)
+    Ended-says (solve c.args.settings) (Some c.args.bytes.now) refl
     (refl, (c.requires.short, search rules)) c.say_bad_instance.ensures
