@@ -3,8 +3,12 @@
 mod bounds;
 mod exclusion;
 mod largest;
+mod near;
 mod numbers;
+mod polishing;
 mod reading;
+mod refusing;
+mod resuming;
 mod roots;
 mod rows;
 mod solving;
@@ -18,5 +22,9 @@ fn main() {
     reading::measure();
     sorting::measure();
     solving::measure();
+    polishing::measure();
+    near::measure();
     teams::measure();
+    refusing::measure();
+    resuming::measure();
 }

@@ -11,7 +11,7 @@ pub const PROGRAM: &str = "../crates/bsss/out/bsss";
 const BUDGET: usize = 100_000;
 const POOL: usize = 100_000;
 
-type Pt = (i64, i64);
+pub type Pt = (i64, i64);
 
 /// The program's output for these words and this input, and its time in milliseconds.
 pub fn run(words: &[&str], input: &[u8]) -> (String, f64) {
@@ -20,6 +20,7 @@ pub fn run(words: &[&str], input: &[u8]) -> (String, f64) {
         .args(words)
         .stdin(Stdio::piped())
         .stdout(Stdio::piped())
+        .stderr(Stdio::null())
         .spawn()
         .expect("the built program");
     program.stdin.take().unwrap().write_all(input).unwrap();
@@ -28,7 +29,7 @@ pub fn run(words: &[&str], input: &[u8]) -> (String, f64) {
 }
 
 /// The numbers of the first line of a text that begins with this word.
-fn numbers_of(text: &str, word: &str) -> Vec<i64> {
+pub fn numbers_of(text: &str, word: &str) -> Vec<i64> {
     let line = text.lines().find(|line| line.split(' ').next() == Some(word)).unwrap();
     line.split(' ').skip(1).map(|field| field.parse().unwrap()).collect()
 }
@@ -65,15 +66,15 @@ impl Ord for Entry {
 }
 
 /// Points with their weights, in grid units, in a permitted rectangle with a forbidden one.
-struct Instance {
-    points: Vec<(i64, i64, i64)>,
+pub struct Instance {
+    pub points: Vec<(i64, i64, i64)>,
     permitted: [Pt; 2],
     forbidden: [Pt; 2],
     weight: i64,
 }
 
 impl Instance {
-    fn read(text: &str) -> Instance {
+    pub fn read(text: &str) -> Instance {
         let grid = |v: &i64| 65536 * v;
         let points: Vec<_> = text
             .lines()
@@ -136,13 +137,13 @@ impl Instance {
         inside && !(barred_low.0 < z.0 && z.0 < barred_high.0 && barred_low.1 < z.1 && z.1 < barred_high.1)
     }
 
-    fn is_excluded(&self, e: Entry) -> bool {
-        let side = 1 << e.level;
+    pub fn is_excluded(&self, (x, y): Pt, level: u32) -> bool {
+        let side = 1 << level;
         let [low, high] = self.permitted;
         let [barred_low, barred_high] = self.forbidden;
-        let apart = e.x > high.0 || e.x + side < low.0 || e.y > high.1 || e.y + side < low.1;
-        let in_x = barred_low.0 < e.x && e.x + side < barred_high.0;
-        apart || in_x && barred_low.1 < e.y && e.y + side < barred_high.1
+        let apart = x > high.0 || x + side < low.0 || y > high.1 || y + side < low.1;
+        let in_x = barred_low.0 < x && x + side < barred_high.0;
+        apart || in_x && barred_low.1 < y && y + side < barred_high.1
     }
 }
 
@@ -153,7 +154,7 @@ enum Finding {
 }
 
 fn judge(i: &Instance, e: Entry, gap: i64, seen: i64) -> Finding {
-    if i.is_excluded(e) {
+    if i.is_excluded((e.x, e.y), e.level) {
         return Finding::Settled;
     }
     if e.raised {
@@ -204,19 +205,24 @@ fn std_solve(i: &Instance) -> (i64, i64, usize, usize) {
             }
         }
     }
-    let bound = leaves.iter().filter(|e| !i.is_excluded(**e)).map(|e| i.fine(*e)).min().unwrap();
+    let bound = leaves.iter().filter(|e| !i.is_excluded((e.x, e.y), e.level)).map(|e| i.fine(*e)).min().unwrap();
     (least, bound, leases, splits + leaves.len())
 }
 
 /// An instance of one town beside a slanted edge, along which many squares stay open.
 pub const SLANT: &str = "siting 1\nkind sum\npoint -1000000 3 1\npermit 0 -1000000 1000000 -1000000 1000000 1000000 7 999999\nend\n";
 
+/// The output of the program for these words and this input, and the best time of two runs, in milliseconds.
+pub fn run_twice(words: &[&str], input: &str) -> (String, f64) {
+    let (output, first) = run(words, input.as_bytes());
+    (output, first.min(run(words, input.as_bytes()).1))
+}
+
 /// The best time of two checks of an accepted answer, in milliseconds.
-fn time_of_check(answer: &str) -> f64 {
-    let checked = || run(&["check"], answer.as_bytes());
-    let (said, first) = checked();
+pub fn time_of_check(answer: &str) -> f64 {
+    let (said, time) = run_twice(&["check"], answer);
     assert_eq!(said, "accepted\n");
-    first.min(checked().1)
+    time
 }
 
 /// Prints the times, and compares costs and bounds.

@@ -1,8 +1,9 @@
-//! The program `bsss`: gives its words and its standard streams to the top call, and ends with
-//! the code of the status.
+//! The program `bsss`: gives its words and its standard streams to the top call, writes help to
+//! standard error, and ends with the code of the status.
 #![tactic(auto)]
 
 use bsss_cli::{Argv, OpenGate, run};
+use bsss_help::write_help;
 use port_io::{StdSink, StdSource};
 use std::env;
 use std::io::ErrorKind;
@@ -20,6 +21,8 @@ fn main(rt: HostRuntime) -> ExitCode {
             let mut source = StdSource::new(rt.stdin());
             let mut sink = StdSink::new(rt.stdout());
             let status = run(&rt, rt.alloc(), &words, &mut source, &mut sink, &OpenGate);
+            // Where the help can't be written, the run has ended all the same.
+            let _ = write_help(&words, status, &mut StdSink::new(rt.stderr()));
             ExitCode::from(status.code())
         }
         Err(code) => ExitCode::from(code),

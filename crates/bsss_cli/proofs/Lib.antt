@@ -1,5 +1,10 @@
 mod OutcomeLemmas
+mod ReadingLemmas
 mod SolveLemmas
 mod CheckLemmas
+mod LoadLemmas
+mod ResumeLemmas
+mod PolishLemmas
+mod NearLemmas
 mod TrialLemmas
 mod CommandLemmas

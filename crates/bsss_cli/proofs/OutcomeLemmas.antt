@@ -1,12 +1,15 @@
 -- From what was written to what a run does.
-use Rattle.std.proofs.Common.{◌≡◌, ◌≢◌, ℕ, List, [], Option, None, Some, IfSome, Result, Ok, Err, Bool, true, false, ⊎_elim, inl, inr, refl, sym, ap, subst, ◌∙◌, arith}
+use Rattle.std.proofs.Common.{◌≡◌, ◌≢◌, ℕ, List, [], Option, None, Some, IfSome, MatchOption, MatchResult, Result, Ok, Err, Bool, true, false, ⊎_elim, inl, inr, refl, sym, ap, subst, ◌∙◌, arith}
 use Rattle.std.proofs.lemmas.Bool.{false≢true}
+use Rattle.std.specs.Prelude.{is_some, IsTrue}
+use Rattle.siting_definitions.specs.declared.Word.{Word}
+use Rattle.siting_definitions.specs.declared.Word.TheVariants as words
 use Rattle.port_io.specs.Faults.{Rose}
 use Rattle.port_io.specs.Bytes.{Took, TookFront}
 use Rattle.port_io.specs.Output.{SinkView, Wrote}
 use Rattle.bsss_cli.specs.declared.status.Status.{Status}
 use Rattle.bsss_cli.specs.declared.status.Status.TheVariants.{ReadFault, WriteFault, NoMemory}
-use Rattle.bsss_cli.specs.Status.{Extent, Whole, Front, Nothing, meaning_of, code_of, HasReadAll, reported}
+use Rattle.bsss_cli.specs.Status.{Extent, Whole, Front, Nothing, meaning_of, code_of, HasReadAll, status_of, reported}
 use Rattle.bsss_cli.specs.Ports.{SourceGhosts, SinkGhosts, view, KeepsSource, KeepsSink}
 use Rattle.bsss_cli.specs.Outcome.{Promise, refusal, Writes, WritesSo, Completes, HasRead, Says, Ended, Ran}
 
@@ -21,6 +24,19 @@ front≢whole e = absurd cc
 nothing≢whole : Nothing ≢ Whole
 nothing≢whole e = absurd cc
 
+-- an answer with a word is written whole
+pub status_of-whole : (word : Word) → (meaning_of (status_of word)).taken ≡ Whole
+status_of-whole words.Solved = refl
+status_of-whole words.PoolFull = refl
+status_of-whole words.Budget = refl
+status_of-whole words.Floor = refl
+status_of-whole words.Empty = refl
+
+-- where something is said of a word, there is one
+pub word_answers : (P : Word → Type 0) (o : Option Word) → MatchOption o ⊥ P → IsTrue (is_some o)
+word_answers P None h = absurd h
+word_answers P (Some word) h = refl
+
 -- ---- what stays of a sink and of a source
 -- a sink to which nothing was done
 pub same_sink : {K : Type 0} (k : SinkGhosts K) (sink : K) (status : Status)
@@ -28,9 +44,9 @@ pub same_sink : {K : Type 0} (k : SinkGhosts K) (sink : K) (status : Status)
 same_sink k sink status = record { room = refl; later = omega arith; heard = λ strict e. refl }
 
 -- a source of which nothing was read
-pub same_source : {S : Type 0} (s : SourceGhosts S) (source : S) (status : Status)
-    → KeepsSource s source source status
-same_source s source status = record { later = omega arith; heard = λ strict e. refl }
+pub same_source : {S : Type 0} (s : SourceGhosts S) (reads_ahead : Bool) (source : S)
+    (status : Status) → KeepsSource s reads_ahead source source status
+same_source s reads_ahead source status = record { later = omega arith; heard = λ strict e. refl }
 
 -- ---- what was written
 -- a text that was written says the status that is reported of it
@@ -133,15 +149,16 @@ Ended-no_memory k p told sink takes =
       sink = same_sink k sink NoMemory;
     }
 
--- what was written of some bytes told was written of others, where the answers allow it
-pub Writes-told : (p : Promise) (told others : Option (List ℕ)) (before after : SinkView)
+-- what was written as one promise has it was written as another has it, where its answers are the
+-- other's too
+pub Writes-map : (p q : Promise) (told others : Option (List ℕ)) (before after : SinkView)
     (status : Status)
-    → ((s : Status) (text : List ℕ) → p.answers told s text → p.answers others s text)
-    → Writes p told before after status → Writes p others before after status
-Writes-told p told others before after status allows = by_extent (meaning_of status).taken
+    → ((s : Status) (text : List ℕ) → p.answers told s text → q.answers others s text)
+    → Writes p told before after status → Writes q others before after status
+Writes-map p q told others before after status allows = by_extent (meaning_of status).taken
   where
     by_extent : (t : Extent) → WritesSo t p told before after status
-        → WritesSo t p others before after status
+        → WritesSo t q others before after status
     by_extent Whole h =
         record { text = h.text; answers = allows status h.text h.answers; took = h.took }
     by_extent Front h = record {
@@ -168,7 +185,7 @@ Ran-unread {s = s} {status = status} p source unread ended =
       read = λ reads h. absurd (false≢true (sym unread ∙ reads));
       stops = λ e. absurd (false≢true (sym unread ∙ e));
       read_fault = λ e. absurd (ended.no_read_fault e);
-      source = same_source s source status;
+      source = same_source s p.reads_ahead source status;
       memory = ended.memory;
     }
 
@@ -184,7 +201,7 @@ Ran-refusal {s = s} {says = says} {text = text} source whole said =
 -- A command that reads did not fail in it, and ended: what was read, and how it ended.
 pub Ran-read : {S K : Type 0} {s : SourceGhosts S} {k : SinkGhosts K} {before after : K}
     {status : Status} (p : Promise) (source rest : S) → p.reads ≡ true
-    → KeepsSource s source rest status
+    → KeepsSource s p.reads_ahead source rest status
     → (HasReadAll status → IfSome (s.left source) (λ bytes. s.left rest ≡ Some []))
     → IfSome (s.left source) (λ bytes. HasRead p (s.left source) (s.left rest) status)
     → Ended k p (s.left source) before after status
@@ -218,7 +235,7 @@ read_as_said said h =
 -- a command that reads says what it promised
 pub Ran-says : {S K : Type 0} {s : SourceGhosts S} {k : SinkGhosts K} {before after : K}
     {says : Status} {text : List ℕ} {status : Status} (p : Promise) (source rest : S)
-    → p.reads ≡ true → KeepsSource s source rest status → (meaning_of says).taken ≡ Whole
+    → p.reads ≡ true → KeepsSource s p.reads_ahead source rest status → (meaning_of says).taken ≡ Whole
     → (HasReadAll says → IfSome (s.left source) (λ bytes. s.left rest ≡ Some []))
     → IfSome (s.left source) (λ bytes. HasRead p (s.left source) (s.left rest) status)
     → p.answers (s.left source) says text → Says k before after says text status
@@ -228,7 +245,7 @@ Ran-says {s = s} p source rest reads kept whole read stops answers said =
     (Ended-says p (s.left source) whole answers said)
 
 pub Ran-read_fault : {S K : Type 0} {s : SourceGhosts S} {k : SinkGhosts K} (p : Promise)
-    (source rest : S) (sink : K) → p.reads ≡ true → KeepsSource s source rest ReadFault
+    (source rest : S) (sink : K) → p.reads ≡ true → KeepsSource s p.reads_ahead source rest ReadFault
     → Rose (s.faults source) (s.faults rest)
     → IfSome (s.left source) (λ bytes. HasRead p (s.left source) (s.left rest) ReadFault)
     → Ran s k p source rest sink sink ReadFault
@@ -249,7 +266,7 @@ Ran-read_fault {k = k} p source rest sink reads kept rose stops =
 
 pub Ran-no_memory : {S K : Type 0} {s : SourceGhosts S} {k : SinkGhosts K} (p : Promise)
     (source rest : S) (sink : K) → p.reads ≡ true → p.takes_memory ≡ true
-    → KeepsSource s source rest NoMemory
+    → KeepsSource s p.reads_ahead source rest NoMemory
     → IfSome (s.left source) (λ bytes. HasRead p (s.left source) (s.left rest) NoMemory)
     → Ran s k p source rest sink sink NoMemory
 Ran-no_memory {s = s} {k = k} p source rest sink reads takes kept stops =
@@ -257,6 +274,11 @@ Ran-no_memory {s = s} {k = k} p source rest sink reads takes kept stops =
     (Ended-no_memory k p (s.left source) sink takes)
 
 -- ---- what comes where the outside has no fault
+pub MatchResult-map : {T E : Type 0} {P Q : T → Type 0} {R S : E → Type 0} (r : Result T E)
+    → ((x : T) → P x → Q x) → ((e : E) → R e → S e) → MatchResult r P R → MatchResult r Q S
+MatchResult-map (Ok x) f g h = f x h
+MatchResult-map (Err e) f g h = g e h
+
 pub ok≢err : {T E : Type 0} (r : Result T E) (x : T) (e : E) → r ≡ Ok x → r ≡ Err e → ⊥
 ok≢err (Ok y) x e h k = grind (arith)
 ok≢err (Err y) x e h k = grind (arith)

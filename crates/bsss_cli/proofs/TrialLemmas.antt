@@ -1,5 +1,5 @@
 -- The text of a valid answer fits its room in memory, and what a summary is written from.
-use Rattle.std.proofs.Common.{◌≡◌, ℕ, ◌+◌, ◌*◌, ◌≤◌, List, [], ◌∷◌, ◌++◌, Option, None, Some, Bool, codes, refl, ap, subst, ◌∙◌, arith}
+use Rattle.std.proofs.Common.{◌≡◌, ℕ, ◌≤◌, List, [], ◌∷◌, ◌++◌, Option, None, Some, Bool, codes, refl, ap, subst, ◌∙◌, arith}
 use Rattle.std.specs.Prelude.{length, pos, if◌then◌else◌, MatchOption, IsErrOf, Result, Ok, Err}
 use Rattle.std.specs.Fmt.{signed_decimal}
 use Rattle.std.proofs.lemmas.Bool.{le-leb}
@@ -29,7 +29,7 @@ use Rattle.bsss_cli.specs.Outcome.{Says, Ended}
 use Rattle.bsss_cli.specs.Solve.{IsAnswerTo}
 use Rattle.bsss_cli.specs.Trial.{Tries, summary_lines, trial}
 use Rattle.bsss_cli.proofs.OutcomeLemmas.{ok≢err, Ended-says}
-use Rattle.bsss_cli.proofs.SolveLemmas.{status_of-whole}
+use Rattle.bsss_cli.proofs.OutcomeLemmas.{status_of-whole}
 
 -- a count that stays 0 didn't rise
 pub no_fault : Rose 0 0 → ⊥

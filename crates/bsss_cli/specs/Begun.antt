@@ -1,5 +1,5 @@
 -- What is known of a solve between its beginning and its search.
-use Rattle.std.specs.Prelude.{◌≡◌, ◌≢◌, ◌≤◌, List, [], ℕ, length, Option, Some, IfSome, Ok, ⊤}
+use Rattle.std.specs.Prelude.{◌≡◌, ◌≤◌, List, [], ℕ, length, Some, IfSome, Ok, false}
 use Rattle.siting_definitions.specs.Instance.{Instance, IsInstance}
 use Rattle.instance_text.specs.Reading.{reading}
 use Rattle.pool_core.specs.Job.{Job}
@@ -7,7 +7,6 @@ use Rattle.pool_core.specs.State.{State}
 use Rattle.pool_core.specs.Sound.{IsPoolOf}
 use Rattle.command_line.specs.declared.command.Settings.{Settings}
 use Rattle.bsss_cli.specs.declared.status.Status.{Status}
-use Rattle.bsss_cli.specs.declared.status.Status.TheVariants.{ReadFault}
 use Rattle.bsss_cli.specs.Texts.{instance_limit}
 use Rattle.bsss_cli.specs.Ports.{SourceGhosts, KeepsSource}
 use Rattle.bsss_cli.specs.Outcome.{OfBytes, HasRead}
@@ -33,4 +32,4 @@ pub record IsBegun {S : Type 0} (g : SourceGhosts S) (s : Settings) (old new : S
   pub read : IfSome (g.left old) (λ bytes. g.left new ≡ Some [])
   pub stops : (status : Status)
       → IfSome (g.left old) (λ bytes. HasRead (solve s) (g.left old) (g.left new) status)
-  pub source : (status : Status) → KeepsSource g old new status
+  pub source : (status : Status) → KeepsSource g false old new status

@@ -1,11 +1,11 @@
 -- What a check answers.
-use Rattle.std.specs.Prelude.{◌≡◌, ℕ, true, List, Option, IfSome, Err}
+use Rattle.std.specs.Prelude.{◌≡◌, ℕ, Bool, true, false, List, Option, IfSome, Err, ⊤}
 use Rattle.siting_definitions.specs.AnswerText.{answer_text}
 use Rattle.siting_definitions.specs.Answer.{Answer, IsValid}
 use Rattle.siting_definitions.specs.Claims.{Claims}
 use Rattle.cert_checker.specs.declared.faults.CheckError.TheVariants as errors
 use Rattle.cert_checker.specs.Checking.{checking}
-use Rattle.cert_checker.specs.CheckReading.{so_far, IsNeededSoFar, IsInHead}
+use Rattle.cert_checker.specs.CheckReading.{IsOpenSoFar, IsNeededSoFar, IsInHead}
 use Rattle.bsss_cli.specs.declared.status.Status.{Status}
 use Rattle.bsss_cli.specs.declared.status.Status.TheVariants.{Accepted, Rejected, TooLong, ReadFault, NoMemory}
 use Rattle.bsss_cli.specs.Texts.{too_long, accepted, rejected}
@@ -33,18 +33,21 @@ abbrev pub CheckWants : Option (List ℕ) → Status → Type 0
 CheckWants told status =
     IfSome told (λ bytes. (a : Answer) → IsValid a → bytes ≡ answer_text a → status ≡ Accepted)
 
--- How much of its source a check read: no more than its first fault needs. Where reading failed,
--- there was no fault so far; and only the head takes memory.
-abbrev pub CheckStops : List ℕ → Status → Type 0
-CheckStops got ReadFault = so_far got ≡ Err errors.TooLong
-CheckStops got NoMemory = IsInHead got
-CheckStops got status = IsNeededSoFar got
+-- How much of its source a check read. Where reading failed, there was no fault so far; only the head
+-- takes memory; and one worker reads no more than its first fault needs, where a team reads ahead.
+abbrev pub CheckStops : (team : Bool) → List ℕ → Status → Type 0
+CheckStops team got ReadFault = IsOpenSoFar got
+CheckStops team got NoMemory = IsInHead got
+CheckStops false got status = IsNeededSoFar got
+CheckStops true got status = ⊤
 
-abbrev pub check : Promise
-check = record {
+-- what a check promises by one worker, or by a team of two or more
+abbrev pub check : (team : Bool) → Promise
+check team = record {
   reads = true;
   takes_memory = true;
-  stops = CheckStops;
+  reads_ahead = team;
+  stops = λ got left status. CheckStops team got status;
   answers = CheckAnswers;
   wanted = CheckWants;
 }

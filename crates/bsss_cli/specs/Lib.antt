@@ -5,6 +5,11 @@ pub mod Outcome
 pub mod Solve
 pub mod Begun
 pub mod Check
+pub mod Load
+pub mod Resume
+pub mod Reopened
+pub mod Polish
+pub mod Near
 pub mod Make
 pub mod Trial
 pub mod Commands

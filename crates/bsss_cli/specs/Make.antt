@@ -10,7 +10,8 @@ abbrev pub make : ℕ → ℕ → Promise
 make seed points = record {
   reads = false;
   takes_memory = true;
-  stops = λ got status. ⊤;
+  reads_ahead = false;
+  stops = λ got left status. ⊤;
   answers = λ told status text. (status ≡ Made) × (text ≡ instance_text (made seed points));
   wanted = λ told status. status ≡ Made;
 }

@@ -1,5 +1,5 @@
 -- What a run of the program answers, reads and writes, whatever its command.
-use Rattle.std.specs.Prelude.{◌≡◌, ◌≢◌, ◌⊎◌, ℕ, Bool, true, false, List, [], Option, Some, None, IfSome, ⊤}
+use Rattle.std.specs.Prelude.{◌≡◌, ◌≢◌, ◌⊎◌, ℕ, ◌+◌, ◌≤◌, length, Bool, true, false, List, [], Option, Some, None, IfSome, ⊤}
 use Rattle.std.specs.Io.KnownBytes.{Consumes}
 use Rattle.port_io.specs.Faults.{Rose}
 use Rattle.port_io.specs.Bytes.{Took, TookFront}
@@ -15,8 +15,11 @@ pub record Promise : Type 1 where
   pub reads : Bool
   -- whether it takes memory
   pub takes_memory : Bool
-  -- what was read of its source when it answers a status, where the source tells its bytes
-  pub stops : (got : List ℕ) → Status → Type 0
+  -- whether it reads ahead of the first fault of its input
+  pub reads_ahead : Bool
+  -- what was read of its source, and what is left, when it answers a status, where the source tells
+  -- its bytes
+  pub stops : (got : List ℕ) (left : Option (List ℕ)) → Status → Type 0
   -- the statuses that it may answer, each with the text that it writes then
   pub answers : (told : Option (List ℕ)) → Status → (text : List ℕ) → Type 0
   -- the statuses that must come where the outside has no fault and there is memory
@@ -27,7 +30,8 @@ abbrev pub refusal : Status → List ℕ → Promise
 refusal says words = record {
   reads = false;
   takes_memory = false;
-  stops = λ got status. ⊤;
+  reads_ahead = false;
+  stops = λ got left status. ⊤;
   answers = λ told status text. (status ≡ says) × (text ≡ words);
   wanted = λ told status. ⊤;
 }
@@ -36,6 +40,13 @@ refusal says words = record {
 abbrev pub OfBytes : Option (List ℕ) → (List ℕ → Type 0) → Type 0
 OfBytes None P = (bytes : List ℕ) × P bytes
 OfBytes (Some bytes) P = P bytes
+
+-- How much of its source a command read that reads within a limit: a fault of reading and want of
+-- memory came before more than the limit was read, and never is more than a piece read past it.
+abbrev pub ReadsWithin : ℕ → List ℕ → Status → Type 0
+ReadsWithin limit got ReadFault = length got ≤ limit
+ReadsWithin limit got NoMemory = length got ≤ limit
+ReadsWithin limit got status = length got ≤ limit + 4096
 
 -- ---- what was written
 -- the sink took the whole text of an answer
@@ -78,7 +89,7 @@ pub record Says {K : Type 0} (k : SinkGhosts K) (before after : K) (says : Statu
       × Rose (k.faults before) (k.faults after))
   pub sink : KeepsSink k before after status
 
--- it wrote as it promised, and read nothing more
+-- it wrote as it promised, and no read failed
 pub record Ended {K : Type 0} (k : SinkGhosts K) (p : Promise) (told : Option (List ℕ))
     (before after : K) (status : Status) : Type 0 where
   pub written : Writes p told (view k before) (view k after) status
@@ -92,7 +103,7 @@ pub record Ended {K : Type 0} (k : SinkGhosts K) (p : Promise) (told : Option (L
 pub record HasRead (p : Promise) (before after : Option (List ℕ)) (status : Status) : Type 0 where
   pub got : List ℕ
   pub consumed : Consumes before after got
-  pub stops : p.stops got status
+  pub stops : p.stops got after status
 
 -- What a run did: it read and wrote as it promised, and each status has its cause.
 pub record Ran {S K : Type 0} (s : SourceGhosts S) (k : SinkGhosts K) (p : Promise)
@@ -113,5 +124,5 @@ pub record Ran {S K : Type 0} (s : SourceGhosts S) (k : SinkGhosts K) (p : Promi
       → IfSome (s.left old_source)
       (λ bytes. HasRead p (s.left old_source) (s.left new_source) status)
   -- what stays, so that another run may follow
-  pub source : KeepsSource s old_source new_source status
+  pub source : KeepsSource s p.reads_ahead old_source new_source status
   pub sink : KeepsSink k old_sink new_sink status

@@ -1,5 +1,5 @@
 -- What a solve answers.
-use Rattle.std.specs.Prelude.{◌≡◌, ℕ, ℤ, ◌+◌, ◌<◌, ◌≤◌, true, List, length, Option, Some, None, IfSome, MatchOption, Ok, Err, option_map}
+use Rattle.std.specs.Prelude.{◌≡◌, ℕ, ℤ, ◌<◌, ◌≤◌, true, false, List, length, Option, IfSome, MatchOption, Ok, Err, option_map}
 use Rattle.siting_definitions.specs.declared.Word.{Word}
 use Rattle.siting_definitions.specs.Point.{Pt}
 use Rattle.siting_definitions.specs.Instance.{Instance}
@@ -12,10 +12,10 @@ use Rattle.instance_text.specs.Reading.{reading}
 use Rattle.pool_core.specs.Job.{Job}
 use Rattle.command_line.specs.declared.command.Settings.{Settings}
 use Rattle.bsss_cli.specs.declared.status.Status.{Status}
-use Rattle.bsss_cli.specs.declared.status.Status.TheVariants.{BadInstance, TooLong, ReadFault, NoMemory}
+use Rattle.bsss_cli.specs.declared.status.Status.TheVariants.{BadInstance, TooLong}
 use Rattle.bsss_cli.specs.Status.{meaning_of, IsAnswer}
 use Rattle.bsss_cli.specs.Texts.{instance_limit, too_long, bad_instance}
-use Rattle.bsss_cli.specs.Outcome.{Promise, OfBytes}
+use Rattle.bsss_cli.specs.Outcome.{Promise, OfBytes, ReadsWithin}
 
 -- the opening with its upper cost, if there is one
 abbrev pub opening_offer : Instance → Option (Pt × ℤ)
@@ -74,18 +74,12 @@ SolveWants told status =
     IfSome told (λ bytes. (i : Instance) → length bytes ≤ instance_limit → reading bytes ≡ Ok i
     → IsAnswer status)
 
--- How much of its source a solve read: a fault of reading and want of memory came before more than
--- the limit was read, and never is more than a piece read past it.
-abbrev pub SolveStops : List ℕ → Status → Type 0
-SolveStops got ReadFault = length got ≤ instance_limit
-SolveStops got NoMemory = length got ≤ instance_limit
-SolveStops got status = length got ≤ instance_limit + 4096
-
 abbrev pub solve : Settings → Promise
 solve s = record {
   reads = true;
   takes_memory = true;
-  stops = SolveStops;
+  reads_ahead = false;
+  stops = λ got left status. ReadsWithin instance_limit got status;
   answers = SolveAnswers s;
   wanted = SolveWants;
 }

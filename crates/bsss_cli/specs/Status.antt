@@ -3,7 +3,11 @@ use Rattle.std.specs.Prelude.{◌≡◌, ◌≢◌, ℕ, Bool, true, false, is_s
 use Rattle.siting_definitions.specs.declared.Word.{Word}
 use Rattle.siting_definitions.specs.declared.Word.TheVariants as words
 use Rattle.bsss_cli.specs.declared.status.Status.{Status}
-use Rattle.bsss_cli.specs.declared.status.Status.TheVariants.{Solved, Accepted, Made, Usage, BadInstance, Rejected, ReadFault, WriteFault, NoMemory, TooLong, PoolFull, Budget, Floor, Empty}
+use Rattle.bsss_cli.specs.declared.status.Status.TheVariants.{Solved, Accepted, Made, Polished, Near}
+use Rattle.bsss_cli.specs.declared.status.Status.TheVariants.{Usage, BadInstance, Rejected, ReadFault}
+use Rattle.bsss_cli.specs.declared.status.Status.TheVariants.{WriteFault, NoMemory, TooLong}
+use Rattle.bsss_cli.specs.declared.status.Status.TheVariants.{PoolFull, Budget, Floor, Empty}
+use Rattle.bsss_cli.specs.declared.status.Status.TheVariants.{SmallBudget, SmallPool, NoSite, TooMany}
 
 -- how much of the text of a run its sink took
 pub data Extent : Type 0 where
@@ -30,6 +34,8 @@ abbrev pub meaning_of : Status → Meaning
 meaning_of Solved = meaning 0 Whole true (Some words.Solved)
 meaning_of Accepted = meaning 0 Whole true None
 meaning_of Made = meaning 0 Whole false None
+meaning_of Polished = meaning 0 Whole true None
+meaning_of Near = meaning 0 Whole true None
 meaning_of Usage = meaning 2 Whole false None
 meaning_of (BadInstance number line) = meaning 3 Whole true None
 meaning_of (Rejected fault) = meaning 5 Whole false None
@@ -41,6 +47,10 @@ meaning_of PoolFull = meaning 10 Whole true (Some words.PoolFull)
 meaning_of Budget = meaning 11 Whole true (Some words.Budget)
 meaning_of Floor = meaning 12 Whole true (Some words.Floor)
 meaning_of Empty = meaning 13 Whole true (Some words.Empty)
+meaning_of (SmallBudget has wants) = meaning 14 Whole true None
+meaning_of (SmallPool has wants) = meaning 15 Whole true None
+meaning_of NoSite = meaning 16 Whole true None
+meaning_of (TooMany limit) = meaning 17 Whole true None
 
 -- the code with which the program ends
 abbrev pub code_of : Status → ℕ

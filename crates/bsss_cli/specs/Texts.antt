@@ -22,6 +22,23 @@ abbrev pub fault_text : List ℕ → ℕ → ℕ → List ℕ → List ℕ
 fault_text word number line rest =
     word ++ (decimal number ++ (codes " line " ++ (decimal line ++ rest)))
 
+abbrev pub no_site : List ℕ
+no_site = codes "no site\n"
+
+abbrev pub too_many : ℕ → List ℕ
+too_many limit = codes "too many above " ++ (decimal limit ++ codes "\n")
+
+-- a number that is too small, after a word
+abbrev pub small_text : List ℕ → ℕ → ℕ → List ℕ
+small_text word has wants =
+    word ++ (decimal has ++ (codes " wants " ++ (decimal wants ++ codes "\n")))
+
+abbrev pub small_budget : ℕ → ℕ → List ℕ
+small_budget has wants = small_text (codes "small budget has ") has wants
+
+abbrev pub small_pool : ℕ → ℕ → List ℕ
+small_pool has wants = small_text (codes "small pool has ") has wants
+
 abbrev pub bad_instance : ℕ → ℕ → List ℕ
 bad_instance number line = fault_text (codes "bad instance ") number line (codes "\n")
 

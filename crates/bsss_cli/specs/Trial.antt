@@ -7,7 +7,6 @@ use Rattle.siting_definitions.specs.Line.{text_of}
 use Rattle.siting_definitions.specs.AnswerText.{number_line, optional_line, site_line, cost_line, word_field}
 use Rattle.case_maker.specs.Made.{made}
 use Rattle.command_line.specs.declared.command.Settings.{Settings}
-use Rattle.bsss_cli.specs.declared.status.Status.{Status}
 use Rattle.bsss_cli.specs.Status.{meaning_of, IsAnswer}
 use Rattle.bsss_cli.specs.Outcome.{Promise}
 use Rattle.bsss_cli.specs.Solve.{IsAnswerTo}
@@ -40,7 +39,8 @@ abbrev pub trial : ℕ → ℕ → Settings → Promise
 trial seed points s = record {
   reads = false;
   takes_memory = true;
-  stops = λ got status. ⊤;
+  reads_ahead = false;
+  stops = λ got left status. ⊤;
   answers = λ told status text. MatchOption (meaning_of status).word ⊥
       (λ word. Tries seed points s word text);
   wanted = λ told status. IsAnswer status;

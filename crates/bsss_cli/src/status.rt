@@ -16,6 +16,10 @@ pub enum Status {
     Accepted,
     /// The instance was made.
     Made,
+    /// A better bound of an answer was written.
+    Polished,
+    /// The near set of an answer was written.
+    Near,
     /// The words are no lawful command.
     Usage,
     /// The bytes are no instance text.
@@ -43,6 +47,27 @@ pub enum Status {
     Floor,
     /// No point is permitted.
     Empty,
+    /// The budget is below the leases that an answer's splits took.
+    SmallBudget {
+        /// The budget.
+        has: u32,
+        /// How many squares are split.
+        wants: u32,
+    },
+    /// The pool has no room for the squares that an answer leaves open.
+    SmallPool {
+        /// How many squares may be open.
+        has: u32,
+        /// How many squares are left open.
+        wants: u32,
+    },
+    /// The answer has no site.
+    NoSite,
+    /// The near set has more squares than the limit.
+    TooMany {
+        /// The limit.
+        limit: u32,
+    },
 }
 
 impl Status {
@@ -51,7 +76,7 @@ impl Status {
         ensures { result ≡ code_of self.now }
     {
         match self {
-            Status::Solved | Status::Accepted | Status::Made => 0,
+            Status::Solved | Status::Accepted | Status::Made | Status::Polished | Status::Near => 0,
             Status::Usage => 2,
             Status::BadInstance { .. } => 3,
             Status::Rejected(_) => 5,
@@ -63,6 +88,10 @@ impl Status {
             Status::Budget => 11,
             Status::Floor => 12,
             Status::Empty => 13,
+            Status::SmallBudget { .. } => 14,
+            Status::SmallPool { .. } => 15,
+            Status::NoSite => 16,
+            Status::TooMany { .. } => 17,
         }
     }
 }

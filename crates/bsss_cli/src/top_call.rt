@@ -7,8 +7,11 @@ ghost use Rattle.bsss_cli.specs.Ports.{source_ghosts, sink_ghosts};
 ghost use Rattle.bsss_cli.specs.Outcome.{Completes, Ran};
 ghost use Rattle.bsss_cli.specs.Commands.{promise_of};
 
-use crate::commands::check::run_check;
+use crate::commands::check::{run_check, run_check_by_team};
 use crate::commands::make::run_make;
+use crate::commands::near::run_near;
+use crate::commands::polish::run_polish;
+use crate::commands::resume::{run_resume, run_resume_by_team};
 use crate::commands::solve::{run_solve, run_solve_by_team};
 use crate::commands::trial::run_trial;
 use crate::output::say;
@@ -83,6 +86,14 @@ fn run_by_team<R: Threads + Wait + Sync, S: Source, K: Sink, G: Gate + Sync>(
         Some(Command::Solve(settings)) => {
             run_solve_by_team(rt, alloc, settings, source, sink, gate)
         }
+        Some(Command::Check { workers }) => run_check_by_team(rt, alloc, workers, source, sink),
+        Some(
+            Command::Resume {
+                budget,
+                pool,
+                workers,
+            },
+        ) => run_resume_by_team(rt, alloc, budget, pool, workers, source, sink, gate),
         _ => unreachable!(),
     }
 }
@@ -103,7 +114,16 @@ fn run_command<S: Source, K: Sink>(
     match command {
         None => say(b"bad words\n", Status::Usage, sink),
         Some(Command::Solve(settings)) => { run_solve(alloc, settings, source, sink) }
-        Some(Command::Check) => run_check(alloc, source, sink),
+        Some(Command::Check { .. }) => run_check(alloc, source, sink),
+        Some(Command::Resume { budget, pool, .. }) => run_resume(alloc, budget, pool, source, sink),
+        Some(Command::Polish) => run_polish(alloc, source, sink),
+        Some(
+            Command::Near {
+                slack,
+                depth,
+                limit,
+            },
+        ) => run_near(alloc, slack, depth, limit, source, sink),
         Some(Command::Make { seed, points }) => run_make(alloc, seed, points, sink),
         Some(
             Command::Trial {

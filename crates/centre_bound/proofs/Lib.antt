@@ -4,4 +4,4 @@ mod TermLemmas
 mod CutLemmas
 mod ClosedForm
 mod Computed
-mod PolishLemmas
+pub mod PolishLemmas

@@ -19,7 +19,7 @@ use Rattle.siting_definitions.specs.Tree.{Tree, TreeSquare, preorder}
 use Rattle.siting_definitions.specs.Marks.{leaf_mark, SplitFits, MarkFits, MarksFit, lesser, bound_of, least_of, is_split, tally_of}
 use Rattle.siting_definitions.specs.Answer.{Answer, IsValid, upper_cost}
 use Rattle.siting_definitions.specs.Claims.{IsBound}
-use Rattle.siting_definitions.proofs.MarkLemmas.{shut_leaf, open_bound, split_bound, lesser-assoc}
+use Rattle.siting_definitions.proofs.MarkLemmas.{shut_leaf, open_bound, split_bound, lesser-assoc, lesser-none}
 use Rattle.discard_log.specs.declared.node.Node.{Node}
 use Rattle.discard_log.specs.Nodes.{tree_square, mark_of}
 use Rattle.dyadic_square.proofs.Bag.{total, once}
@@ -70,10 +70,6 @@ pub fine_at : (i : Instance) (ns : List Node) (k : ℕ) (n : Node) → HaveFineB
 fine_at i ns k n fine within at = subst (HasFineBound i) (sym at) (All-get_or (HasFineBound i) ns k n within fine)
 
 -- ---- the lesser of bounds that may be absent
-pub lesser_none : (o : Option ℤ) → lesser o None ≡ o
-lesser_none None = refl
-lesser_none (Some a) = refl
-
 lesser_same : (a o : Option ℤ) → lesser a (lesser a o) ≡ lesser a o
 lesser_same None o = refl
 lesser_same (Some a) None = ap Some (same_in _ _ (omega (arith, ints, clamps)))
@@ -108,7 +104,7 @@ drop_all (n ∷ ns) zero h = absurd (omega arith)
 drop_all (n ∷ ns) (suc k) h = drop_all ns k (omega arith)
 
 pub least_at_end : (i : Instance) (ns : List Node) (k : ℕ) (o r : Option ℤ) → length ns ≤ k → lesser o (least_centre_bound i (drop k ns)) ≡ r → o ≡ r
-least_at_end i ns k o r h e = sym (lesser_none o) ∙ ap (λ ns. lesser o (least_centre_bound i ns)) (sym (drop_all ns k h)) ∙ e
+least_at_end i ns k o r h e = sym (lesser-none o) ∙ ap (λ ns. lesser o (least_centre_bound i ns)) (sym (drop_all ns k h)) ∙ e
 
 -- a number that is at most the fine bound is at most the centre bound
 pub lesser_by_fine : (i : Instance) (s : Square) (found fine : ℤ) → fine ≡ fine_of i s → found ≤ℤ fine → found ≡ int_min found (centre_bound_of i s)
@@ -134,7 +130,7 @@ node_raised i n fine = by_bound (bound_of n.mark) fine
 
 lesser_raised : (i : Instance) (a b x y : Option ℤ) → IsRaised i a x → IsRaised i b y → IsRaised i (lesser a b) (lesser x y)
 lesser_raised i None b x y h k = subst (λ x. IsRaised i b (lesser x y)) (sym h.raised) k
-lesser_raised i (Some a) None x y h k = rw k.raised (rw (lesser_none x) h)
+lesser_raised i (Some a) None x y h k = rw k.raised (rw (lesser-none x) h)
 lesser_raised i (Some a) (Some b) x y h k =
     let hx = h.raised in
     let ky = k.raised in

@@ -1,6 +1,6 @@
 -- Whole vectors no longer than 2 ^ 20, and their scalar products: that with a way is at most 2 ^ 20 times the way's length. All
 -- is said of squares, without roots.
-use Rattle.std.proofs.Common.{◌≡◌, ℕ, ◌+◌, ◌-◌, ◌*◌, ◌/◌, ◌≤◌, ◌<◌, ◌==◌, zero, suc, ℤ, pos, negsuc, ◌+ℤ◌, ◌*ℤ◌, neg_ℤ, ◌≤ℤ◌, true, false, refl, sym, ap, ◌∙◌, ⊎_elim, ◌⊎◌, inl, inr, arith}
+use Rattle.std.proofs.Common.{◌≡◌, ℕ, ◌+◌, ◌-◌, ◌*◌, ◌/◌, ◌≤◌, ◌<◌, ◌==◌, zero, suc, ℤ, pos, negsuc, ◌+ℤ◌, ◌*ℤ◌, neg_ℤ, ◌≤ℤ◌, true, false, refl, sym, ap, ◌∙◌, ◌⊎◌, inl, inr, arith}
 use Rattle.std.specs.Prelude.{unsigned_abs, int_div, if◌then◌else◌}
 use Rattle.std.proofs.Math.Nat.{mul-le-mul_left, div-mul-le_self, le_of_mul-le-mul_right}
 use Rattle.std.proofs.lemmas.Bool.{cases_lt, cases_Bool, cond-true, cond-false, eqb-true}
@@ -10,7 +10,7 @@ use Rattle.siting_definitions.specs.Integer.{square_of}
 use Rattle.siting_definitions.specs.Root.{ceil_root}
 use Rattle.siting_definitions.specs.Point.{Place, Pt, point_of}
 use Rattle.siting_definitions.specs.Cost.{distance2}
-use Rattle.siting_definitions.proofs.Integers.{square_le}
+use Rattle.siting_definitions.proofs.Integers.{square_le, twice-product}
 use Rattle.root_enclosure.proofs.RootLemmas.{ceil_root-is}
 use Rattle.centre_bound.specs.Cut.{Vector, way_to, share, direction}
 
@@ -66,14 +66,8 @@ direction_short a z = by_whole (cases_lt 0 whole)
         rw (share_of_none way.x whole e, share_of_none way.y whole e) (omega arith)
 
 -- ---- scalar products
-twice-le : (x y : ℕ) → x ≤ y → 2 * (x * y) ≤ x * x + y * y
-twice-le x y h = let k = y - x in let e : y ≡ x + k = omega arith in rw e (omega arith)
-
-twice : (x y : ℕ) → 2 * (x * y) ≤ x * x + y * y
-twice x y = ⊎_elim (λ less. twice-le x y (omega arith)) (λ more. let e = twice-le y x more in omega (arith, e)) (cases_lt x y)
-
 cauchy : (U V E F : ℕ) → (U * E + V * F) * (U * E + V * F) ≤ (U * U + V * V) * (E * E + F * F)
-cauchy U V E F = let e = twice (U * F) (V * E) in omega (arith, e)
+cauchy U V E F = let e = twice-product (U * F) (V * E) in omega (arith, e)
 
 product_short : (u v e f : ℤ) → unsigned_abs (u *ℤ e +ℤ v *ℤ f) ≤ unsigned_abs u * unsigned_abs e + unsigned_abs v * unsigned_abs f
 product_short u v e f = omega (arith, ints, unsigned_abs-mul u e, unsigned_abs-mul v f)

@@ -1,5 +1,6 @@
 -- The least centre bound of an answer's leaves, and what it is of the answer.
-use Rattle.std.specs.Prelude.{◌≡◌, ℤ, ◌≤ℤ◌, List, [], ◌∷◌, All, Option, Some, None, option_map, MatchOption, ⊤}
+use Rattle.std.specs.Prelude.{◌≡◌, ℤ, ◌≤ℤ◌, List, [], ◌∷◌, All, Option, Some, None, option_map}
+use Rattle.std.specs.Prelude.{MatchOption, ⊤}
 use Rattle.siting_definitions.specs.Instance.{Instance}
 use Rattle.siting_definitions.specs.Bounds.{fine_of}
 use Rattle.siting_definitions.specs.Marks.{lesser, bound_of}

@@ -1,6 +1,7 @@
 //! The cut of a square: one pass over the points serves all four corners.
 
-ghost use Rattle.std.specs.Prelude.{◌≡◌, ◌+◌, ◌*◌, ◌^◌, ◌<◌, ◌≤◌, pos, ◌+ℤ◌, ◌-ℤ◌, ◌*ℤ◌, ◌≤ℤ◌, unsigned_abs, sum_by};
+ghost use Rattle.std.specs.Prelude.{◌≡◌, ◌+◌, ◌*◌, ◌^◌, ◌<◌, ◌≤◌, pos, ◌+ℤ◌, ◌-ℤ◌, ◌*ℤ◌, ◌≤ℤ◌};
+ghost use Rattle.std.specs.Prelude.{unsigned_abs, sum_by};
 ghost use Rattle.siting_definitions.specs.Instance as instances;
 ghost use Rattle.siting_definitions.specs.Instance.{DemandPt};
 ghost use Rattle.siting_definitions.specs.Square.{centre_of};

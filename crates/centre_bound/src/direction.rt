@@ -1,6 +1,7 @@
 //! Directions: whole vectors no longer than 2^20.
 
-ghost use Rattle.std.specs.Prelude.{◌≡◌, ◌+◌, ◌*◌, ◌/◌, ◌^◌, ◌<◌, ◌≤◌, pos, ◌+ℤ◌, ◌-ℤ◌, ◌*ℤ◌, unsigned_abs};
+ghost use Rattle.std.specs.Prelude.{◌≡◌, ◌+◌, ◌*◌, ◌/◌, ◌^◌, ◌<◌, ◌≤◌, pos, ◌+ℤ◌, ◌-ℤ◌, ◌*ℤ◌};
+ghost use Rattle.std.specs.Prelude.{unsigned_abs};
 ghost use Rattle.siting_definitions.specs.Integer.{square_of};
 ghost use Rattle.siting_definitions.specs.Point.{point_of};
 ghost use Rattle.siting_definitions.specs.Instance.{IsCoordinate};

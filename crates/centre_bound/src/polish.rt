@@ -6,7 +6,8 @@ ghost use Rattle.siting_definitions.specs.Bounds.{fine_of};
 ghost use Rattle.siting_definitions.specs.Marks as marks;
 ghost use Rattle.siting_definitions.specs.Marks.{lesser};
 ghost use Rattle.centre_bound.specs.Cut.{centre_bound_of};
-ghost use Rattle.centre_bound.specs.Polished.{HasFineBound, HaveFineBounds, leaf_bound, least_centre_bound};
+ghost use Rattle.centre_bound.specs.Polished.{HasFineBound, HaveFineBounds, leaf_bound};
+ghost use Rattle.centre_bound.specs.Polished.{least_centre_bound};
 
 use crate::bound::bound_from_fine;
 use discard_log::{Mark, Node, NodeList};

@@ -28,7 +28,7 @@ use Rattle.cert_checker.proofs.ReadLemmas.{past_as, past_stopped, past_fault, pa
 -- ---- a check from its beginning
 module _ (left : Option (List ℕ)) (faults : ℕ) (is_strict : Bool) where
   -- a fault, or an end of the bytes, before all was checked
-  done_says : (b : Stream) (got : List ℕ) (e : CheckError) → StopsAs check_in (start_of left faults is_strict) b got e → SaysOf left b.left got (Err e)
+  pub done_says : (b : Stream) (got : List ℕ) (e : CheckError) → StopsAs check_in (start_of left faults is_strict) b got e → SaysOf left b.left got (Err e)
   unfolding checking
   done_says b got (Fault fault) (inl settles) = inl (settles false)
   done_says b got (Fault fault) (inr ended) = inr ended
@@ -131,7 +131,7 @@ done_over left faults is_strict a lines last now result same done = record {
 ended_all : (bytes rest got : List ℕ) → bytes ≡ got ++ rest → ◌≡◌ {A = Option (List ℕ)} (Some rest) (Some []) → bytes ≡ got
 ended_all bytes rest got gave ended = let none : rest ≡ [] = cc in gave ∙ (ap (λ l. got ++ l) none ∙ append-nil got)
 
-says_all : (a b : Option (List ℕ)) (got : List ℕ) (result : Result Accepted CheckError) → Consumes a b got → SaysOf a b got result → IfSome a (λ bytes. ChecksTo (checking bytes) b result)
+pub says_all : (a b : Option (List ℕ)) (got : List ℕ) (result : Result Accepted CheckError) → Consumes a b got → SaysOf a b got result → IfSome a (λ bytes. ChecksTo (checking bytes) b result)
 says_all None b got result gave says = tt
 says_all (Some bytes) None got result gave says = absurd gave
 says_all (Some bytes) (Some rest) got (Ok x) gave says = (ap checking (ended_all bytes rest got gave says.1) ∙ says.0, says.1)

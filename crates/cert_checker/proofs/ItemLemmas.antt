@@ -1,10 +1,10 @@
 -- The lines after the head, as a whole: there is no fault exactly where they are those of marks that fit, with "end" after them.
-use Rattle.std.proofs.Common.{◌≡◌, ℕ, ◌+◌, ℤ, Bool, true, false, List, [], ◌∷◌, ◌++◌, map, codes, Option, None, Some, Result, Ok, Err, refl, sym, ap, ◌∙◌, subst, add_assoc, add-zero}
+use Rattle.std.proofs.Common.{◌≡◌, ℕ, ◌+◌, Bool, true, false, List, [], ◌∷◌, ◌++◌, map, codes, Option, None, Some, Result, Ok, Err, refl, sym, ap, ◌∙◌, subst, add_assoc, add-zero}
 use Rattle.std.specs.Prelude.{All}
 use Rattle.std.proofs.lemmas.List.Elements.{All-nil, All-cons, All-head, All-tail}
 use Rattle.siting_definitions.specs.declared.Mark.{Mark}
 use Rattle.siting_definitions.specs.Square.{Square}
-use Rattle.siting_definitions.specs.Marks.{Tally, tally_of, lesser, is_split, MarkFits}
+use Rattle.siting_definitions.specs.Marks.{Tally, tally_of, is_split, MarkFits}
 use Rattle.dyadic_square.specs.Walk.{coming_after}
 use Rattle.siting_definitions.specs.Answer.{Head, upper_cost, IsMark, EndFits}
 use Rattle.siting_definitions.specs.AnswerText.{mark_line}
@@ -16,7 +16,7 @@ use Rattle.certificate.specs.declared.reader.Item.TheVariants.{Node, End}
 use Rattle.certificate.specs.Forms.{item_form}
 use Rattle.certificate.specs.HeadReading.{end_of}
 use Rattle.instance_text.specs.Reading.{and_then}
-use Rattle.siting_definitions.proofs.MarkLemmas.{lesser-assoc}
+use Rattle.siting_definitions.proofs.MarkLemmas.{lesser-assoc, lesser-none}
 use Rattle.answer_model.specs.Tally.{tally_sum}
 use Rattle.certificate.proofs.MarkForms.{read_node, node_back, read_end, end_back}
 use Rattle.answer_model.proofs.TallyLemmas.{tally_of-append}
@@ -31,16 +31,12 @@ use Rattle.cert_checker.proofs.StepLemmas.{progress, take_mark-then}
 use Rattle.cert_checker.proofs.TreeLemmas.{Reads}
 
 -- ---- tallies
-least-none : (a : Option ℤ) → lesser a None ≡ a
-least-none None = refl
-least-none (Some z) = refl
-
 -- a tally with nothing after it
 pub joined-nothing : (t : Tally) → tally_sum t (tally_of []) ≡ t
 unfolding tally_of
-joined-nothing t = simp add-zero (rw (least-none t.least) refl)
+joined-nothing t = simp add-zero (rw (lesser-none t.least) refl)
 
-joined-assoc : (a b c : Tally) → tally_sum (tally_sum a b) c ≡ tally_sum a (tally_sum b c)
+pub joined-assoc : (a b c : Tally) → tally_sum (tally_sum a b) c ≡ tally_sum a (tally_sum b c)
 joined-assoc a b c =
     rw (add_assoc a.nodes b.nodes c.nodes, add_assoc a.splits b.splits c.splits, add_assoc a.leaves b.leaves c.leaves, add_assoc a.open_leaves b.open_leaves c.open_leaves, add_assoc a.floor_leaves b.floor_leaves c.floor_leaves, lesser-assoc a.least b.least c.least) refl
 

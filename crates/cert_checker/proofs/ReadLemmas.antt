@@ -1,10 +1,11 @@
 -- What calls read of an answer one after another, and what a check says of it.
 use Rattle.std.proofs.Common.{◌≡◌, ℕ, Bool, true, false, List, [], ◌++◌, refl, ap, ◌∙◌, inl, inr, arith, append_assoc, Result, Ok, Err}
 use Rattle.std.specs.Io.KnownBytes.{Consumes}
+use Rattle.std.proofs.lemmas.List.{length-append}
 use Rattle.port_io.proofs.SourceLemmas.{Consumes-then}
 use Rattle.line_stream.specs.Coming.{Coming}
 use Rattle.line_stream.specs.Stream.{Stream, IsCalm, coming_in, IsNeeded}
-use Rattle.line_stream.proofs.LineLemmas.{Consumes-none, calm-none, calm-then, ended-then, rose-then, needed-kept, needed-last}
+use Rattle.line_stream.proofs.LineLemmas.{Consumes-none, calm-none, calm-then, ended-then, rose-then, needed-kept, needed-last, needed_as, open_as, open_after}
 use Rattle.certificate.specs.declared.reader.AnswerError.{AnswerError}
 use Rattle.certificate.specs.declared.reader.AnswerError.TheVariants.{Form, Instance as BadInstance, TooLong as TextTooLong, ReadFault as TextReadFault, NoMemory as TextNoMemory}
 use Rattle.certificate.specs.HeadReading.{answer_limit}
@@ -19,12 +20,12 @@ use Rattle.cert_checker.specs.CheckReading.{BlamesAs, IsPast, StopsAs, IsStopped
 -- ---- the bytes between
 -- nothing was read yet
 pub past_nothing : (wanted : Coming → Result Accepted CheckError) (a : Stream) → IsPast wanted wanted a a
-past_nothing wanted a = record { got = []; consumes = Consumes-none a.left; needed = inl refl; same = λ more rest. refl; calm = calm-none a }
+past_nothing wanted a = record { got = []; consumes = Consumes-none a.left; needed = inl refl; same = λ more rest. refl; count = omega arith; calm = calm-none a }
 
 -- what is wanted later may be said otherwise
 pub past_as : (wanted later last : Coming → Result Accepted CheckError) (a b : Stream) → IsPast wanted later a b
     → ((more : Bool) (rest : List ℕ) → later (coming_in more answer_limit b.lines rest) ≡ last (coming_in more answer_limit b.lines rest)) → IsPast wanted last a b
-past_as wanted later last a b h is = record { got = h.got; consumes = h.consumes; needed = h.needed; same = λ more rest. h.same more rest ∙ is more rest; calm = h.calm }
+past_as wanted later last a b h is = record { got = h.got; consumes = h.consumes; needed = h.needed; same = λ more rest. h.same more rest ∙ is more rest; count = h.count; calm = h.calm }
 
 -- a call that fails as the source did or didn't, after calls that didn't
 blames_later : (a b c : Stream) (e : CheckError) → IsCalm a b → BlamesAs b c e → BlamesAs a c e
@@ -47,7 +48,7 @@ module _ (wanted later : Coming → Result Accepted CheckError) (a b c : Stream)
       → (got : List ℕ) → IsNeeded answer_limit part open_ b.lines got → IsNeeded answer_limit wanted TooLong a.lines (h.got ++ got)
   past_needed part open_ also got (inl none) = needed-kept answer_limit wanted TooLong a.lines h.got got none h.needed
   past_needed part open_ also got (inr last) =
-      needed-last answer_limit wanted TooLong a.lines h.got last.front last.piece got last.parts last.few (h.same true last.front ∙ also _ last.undecided)
+      needed-last answer_limit wanted TooLong part open_ a.lines b.lines h.got got h.count (λ front is. h.same true front ∙ also _ is) last
 
   -- what is said later is said before
   past_same : (got : List ℕ) (x : Result Accepted CheckError) (more : Bool) (rest : List ℕ) → later (coming_in more answer_limit b.lines (got ++ rest)) ≡ x
@@ -58,7 +59,7 @@ module _ (wanted later : Coming → Result Accepted CheckError) (a b c : Stream)
   past_stops got (Fault fault) (inl settles) = inl (λ more rest. past_same got (Err (Fault fault)) more rest (settles more rest))
   past_stops got (Fault fault) (inr ended) = inr (h.same false got ∙ ended.0, ended-then a.left b.left c.left h.got h.consumes ended.1)
   past_stops got TooLong settles = λ more rest. past_same got (Err TooLong) more rest (settles more rest)
-  past_stops got ReadFault stops = h.same true got ∙ stops
+  past_stops got ReadFault stops = open_after answer_limit wanted TooLong later TooLong a.lines b.lines h.got got h.count (λ is. h.same true got ∙ is) stops
   past_stops got NoMemory stops = stops
 
   -- an error that comes later
@@ -78,6 +79,7 @@ module _ (wanted later : Coming → Result Accepted CheckError) (a b c : Stream)
     consumes = Consumes-then a.left b.left c.left h.got k.got h.consumes k.consumes;
     needed = past_needed later TooLong (λ r is. is) k.got k.needed;
     same = λ more rest. past_same k.got (last (coming_in more answer_limit c.lines rest)) more rest (k.same more rest);
+    count = omega (arith, h.count, k.count, length-append h.got k.got);
     calm = calm-then a b c h.calm k.calm;
   }
 
@@ -100,15 +102,14 @@ module _ {X : Type 0} (later : Coming → Result Accepted CheckError) (part : Co
   part_says r x is = begins r ∙ ap (λ y. read_ok y more) is
 
   pub part_needed : (got : List ℕ) → IsNeeded answer_limit part TextTooLong b.lines got → IsNeeded answer_limit later TooLong b.lines got
-  part_needed got (inl none) = inl none
-  part_needed got (inr last) = inr (record { front = last.front; piece = last.piece; parts = last.parts; few = last.few; undecided = part_says _ (Err TextTooLong) last.undecided })
+  part_needed got needed = needed_as answer_limit part TextTooLong later TooLong (λ r is. part_says r (Err TextTooLong) is) b.lines got needed
 
   part_stops : (got : List ℕ) (e : AnswerError) → TextStopsAs false part b c got e → StopsAs later b c got (error_of e)
   part_stops got (Form line) (inl settles) = inl (λ goes_on rest. part_says _ (Err (Form line)) (settles goes_on rest))
   part_stops got (Form line) (inr ended) = inr (part_says _ (Err (Form line)) ended.0, ended.1)
   part_stops got BadInstance settles = inl (λ goes_on rest. part_says _ (Err BadInstance) (settles goes_on rest))
   part_stops got TextTooLong settles = λ goes_on rest. part_says _ (Err TextTooLong) (settles goes_on rest)
-  part_stops got TextReadFault stops = part_says _ (Err TextTooLong) stops
+  part_stops got TextReadFault stops = open_as answer_limit part TextTooLong later TooLong (λ r is. part_says r (Err TextTooLong) is) b.lines got stops
   part_stops got TextNoMemory none = absurd (cc)
 
   -- the part wasn't read
@@ -132,5 +133,6 @@ part_read {T = T} takes later part more begins b c v k =
       consumes = k.consumes;
       needed = part_needed later part says begins b c k.got k.needed;
       same = λ goes_on rest. part_says later part says begins b c _ (Ok (v, coming_in goes_on answer_limit c.lines rest)) (k.reads goes_on rest);
+      count = k.count;
       calm = k.counts;
     }

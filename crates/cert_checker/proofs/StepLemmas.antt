@@ -164,7 +164,7 @@ item_read h start now after squares t turns item half read =
     (part_read false (items_at h squares t) (formed item_form) (item_at h squares t) (items_begin h squares t) now after item read)
 
 -- a line is read at each turn
-fewer : (now after : Stream) (turns : ℕ) (item : Item) → ((more : Bool) (rest : List ℕ) → length (coming_in more answer_limit now.lines rest).input.lines + turns ≤ 2 ^ 30)
+pub fewer : (now after : Stream) (turns : ℕ) (item : Item) → ((more : Bool) (rest : List ℕ) → length (coming_in more answer_limit now.lines rest).input.lines + turns ≤ 2 ^ 30)
     → Read (formed item_form) now after (Ok item) → (more : Bool) (rest : List ℕ) → length (coming_in more answer_limit after.lines rest).input.lines + (turns + 1) ≤ 2 ^ 30
 fewer now after turns item few read more rest =
     shorter item_form _ item _ turns (formed-next item_form _ item _ (read.reads more rest)) (few more (read.got ++ rest))

@@ -1,31 +1,35 @@
 -- How far a check reads, and what it says of the bytes that it read.
-use Rattle.std.specs.Prelude.{◌≡◌, ℕ, ◌≤◌, ◌⊎◌, Bool, true, false, List, ◌++◌, Option, Result, Ok, Err, ⊤}
+use Rattle.std.specs.Prelude.{◌≡◌, ℕ, ◌≤◌, ◌⊎◌, Bool, true, false, List, ◌++◌, Option, Result, Ok}
+use Rattle.std.specs.Prelude.{Err, ⊤}
 use Rattle.std.specs.Io.KnownBytes.{Consumes}
 use Rattle.port_io.specs.Faults.{Rose}
 use Rattle.siting_definitions.specs.Marks.{Tally}
 use Rattle.siting_definitions.specs.Answer.{Head}
 use Rattle.line_stream.specs.Coming.{Coming}
-use Rattle.line_stream.specs.Stream.{Stream, IsCalm, coming_in, Settles, IsNeeded, HasEnded}
+use Rattle.line_stream.specs.Stream.{Stream, IsCalm, AreTaken, coming_in, Settles, LeavesOpen}
+use Rattle.line_stream.specs.Stream.{IsNeeded, HasEnded}
 use Rattle.certificate.specs.declared.reader.AnswerError.TheVariants.{TooLong as TextTooLong}
 use Rattle.certificate.specs.HeadReading.{answer_limit, head_reading, end_of}
 use Rattle.certificate.specs.Beginnings.{nothing_read}
 use Rattle.cert_checker.specs.declared.faults.CheckError.{CheckError}
-use Rattle.cert_checker.specs.declared.faults.CheckError.TheVariants.{Fault, ReadFault, TooLong, NoMemory}
+use Rattle.cert_checker.specs.declared.faults.CheckError.TheVariants.{Fault, ReadFault, TooLong}
+use Rattle.cert_checker.specs.declared.faults.CheckError.TheVariants.{NoMemory}
 use Rattle.cert_checker.specs.declared.checking.Accepted.{Accepted}
-use Rattle.cert_checker.specs.Checking.{accepted_of, check_in, checking, items_of, read_ok, start_of}
+use Rattle.cert_checker.specs.Checking.{accepted_of, check_in, checking, items_of, read_ok}
+use Rattle.cert_checker.specs.Checking.{start_of}
 
 -- ---- a whole check
--- What a check says of an answer that goes on after these bytes: that it is too long, as long as no
--- fault stands in their whole lines.
-abbrev pub so_far : List ℕ → Result Accepted CheckError
-so_far got = check_in (coming_in true answer_limit nothing_read got)
+-- These bytes are within the limit, and hold no fault so far: of an answer that goes on after them
+-- a check says that it is too long.
+abbrev pub IsOpenSoFar : List ℕ → Type 0
+IsOpenSoFar got = LeavesOpen answer_limit check_in TooLong nothing_read got
 
 -- a check says this of these bytes, whatever comes after them
 abbrev pub IsSettled : List ℕ → Result Accepted CheckError → Type 0
 IsSettled got answer = (rest : List ℕ) → checking (got ++ rest) ≡ answer
 
 -- No more bytes were read than a check needs: all those before the last piece, of at most 4,096,
--- hold no fault so far.
+-- are within the limit and hold no fault so far.
 abbrev pub IsNeededSoFar : List ℕ → Type 0
 IsNeededSoFar got = IsNeeded answer_limit check_in TooLong nothing_read got
 
@@ -43,7 +47,7 @@ SaysOf before after got (Err (Fault fault)) =
     IsSettled got (Err (Fault fault))
     ⊎ ((checking got ≡ Err (Fault fault)) × HasEnded before after)
 SaysOf before after got (Err TooLong) = IsSettled got (Err TooLong)
-SaysOf before after got (Err ReadFault) = so_far got ≡ Err TooLong
+SaysOf before after got (Err ReadFault) = IsOpenSoFar got
 SaysOf before after got (Err NoMemory) = IsInHead got
 
 -- What a check reads of a source that had these bytes left before and after. Where the source
@@ -91,6 +95,7 @@ pub record IsPast (wanted later : Coming → Result Accepted CheckError) (before
   pub same : (more : Bool) (rest : List ℕ)
       → wanted (coming_in more answer_limit before.lines (got ++ rest))
       ≡ later (coming_in more answer_limit after.lines rest)
+  pub count : AreTaken before.lines after.lines got
   pub calm : IsCalm before after
 
 -- what is known at an error of what was wanted, as in `SaysOf`; no memory is wanted
@@ -103,7 +108,7 @@ StopsAs wanted before after got (Fault fault) =
 StopsAs wanted before after got TooLong =
     Settles answer_limit wanted before.lines got (Err TooLong)
 StopsAs wanted before after got ReadFault =
-    wanted (coming_in true answer_limit before.lines got) ≡ Err TooLong
+    LeavesOpen answer_limit wanted TooLong before.lines got
 StopsAs wanted before after got NoMemory = ⊥
 
 -- the check of what was wanted ended with this error

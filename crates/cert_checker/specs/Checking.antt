@@ -1,5 +1,6 @@
 -- Whether bytes are the text of a valid answer, and their first fault where they aren't.
-use Rattle.std.specs.Prelude.{ℕ, ◌+◌, List, [], ◌∷◌, Option, Some, None, option_map, Result, Ok, Err}
+use Rattle.std.specs.Prelude.{ℕ, ◌+◌, List, [], ◌∷◌, Option, Some, None, option_map, Result, Ok}
+use Rattle.std.specs.Prelude.{Err}
 use Rattle.siting_definitions.specs.declared.Mark.{Mark}
 use Rattle.siting_definitions.specs.Square.{Square}
 use Rattle.siting_definitions.specs.Sites.{root_of}
@@ -8,7 +9,10 @@ use Rattle.siting_definitions.specs.Answer.{Head}
 use Rattle.instance_text.specs.Reading.{and_then}
 use Rattle.line_stream.specs.Coming.{Coming}
 use Rattle.certificate.specs.declared.reader.AnswerError.{AnswerError}
-use Rattle.certificate.specs.declared.reader.AnswerError.TheVariants.{Form, Instance as BadInstance, TooLong as TextTooLong, ReadFault as TextReadFault, NoMemory as TextNoMemory}
+use Rattle.certificate.specs.declared.reader.AnswerError.TheVariants.{Form, Instance as BadInstance}
+use Rattle.certificate.specs.declared.reader.AnswerError.TheVariants.{TooLong as TextTooLong}
+use Rattle.certificate.specs.declared.reader.AnswerError.TheVariants.{ReadFault as TextReadFault}
+use Rattle.certificate.specs.declared.reader.AnswerError.TheVariants.{NoMemory as TextNoMemory}
 use Rattle.certificate.specs.declared.reader.Item.{Item}
 use Rattle.certificate.specs.declared.reader.Item.TheVariants.{Node, End}
 use Rattle.certificate.specs.Forms.{item_form}
@@ -18,7 +22,8 @@ use Rattle.answer_model.specs.Tally.{tally_sum}
 use Rattle.cert_checker.specs.declared.faults.TheConstants.{FORM, INSTANCE, TREE_SHORT, TREE_LONG}
 use Rattle.cert_checker.specs.declared.faults.CheckFault.{CheckFault}
 use Rattle.cert_checker.specs.declared.faults.CheckError.{CheckError}
-use Rattle.cert_checker.specs.declared.faults.CheckError.TheVariants.{Fault, ReadFault, TooLong, NoMemory}
+use Rattle.cert_checker.specs.declared.faults.CheckError.TheVariants.{Fault, ReadFault, TooLong}
+use Rattle.cert_checker.specs.declared.faults.CheckError.TheVariants.{NoMemory}
 use Rattle.cert_checker.specs.declared.checking.Accepted.{Accepted}
 use Rattle.cert_checker.specs.Faults.{fault_at, head_fault_of, mark_fault_of, end_fault_of}
 use Rattle.cert_checker.specs.Walking.{squares_after}

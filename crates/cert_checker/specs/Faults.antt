@@ -1,10 +1,14 @@
 -- The faults of an answer past its form, in their order.
-use Rattle.std.specs.Prelude.{ℕ, ◌+◌, ◌*◌, ◌==◌, nat_le, nat_lt, ℤ, ◌+ℤ◌, int_le, int_lt, Bool, true, false, if◌then◌else◌, not, ◌&&◌, ◌||◌, is_some, length, Option, Some, None}
+use Rattle.std.specs.Prelude.{ℕ, ◌+◌, ◌*◌, ◌==◌, nat_le, nat_lt, ℤ, ◌+ℤ◌, int_le, int_lt, Bool}
+use Rattle.std.specs.Prelude.{true, false, if◌then◌else◌, not, ◌&&◌, ◌||◌, is_some, length, Option}
+use Rattle.std.specs.Prelude.{Some, None}
 use Rattle.std.specs.Ordering.{int_eq}
 use Rattle.siting_definitions.specs.declared.Mark.{Mark}
-use Rattle.siting_definitions.specs.declared.Mark.TheVariants.{Split, Shut, Bounded, Floor as FloorMark, Left}
+use Rattle.siting_definitions.specs.declared.Mark.TheVariants.{Split, Shut, Bounded}
+use Rattle.siting_definitions.specs.declared.Mark.TheVariants.{Floor as FloorMark, Left}
 use Rattle.siting_definitions.specs.declared.Word.{Word}
-use Rattle.siting_definitions.specs.declared.Word.TheVariants.{Solved, PoolFull, Budget, Floor, Empty}
+use Rattle.siting_definitions.specs.declared.Word.TheVariants.{Solved, PoolFull, Budget, Floor}
+use Rattle.siting_definitions.specs.declared.Word.TheVariants.{Empty}
 use Rattle.siting_definitions.specs.Point.{point_of}
 use Rattle.siting_definitions.specs.Instance.{Instance}
 use Rattle.siting_definitions.specs.InstanceText.{instance_lines}
@@ -15,7 +19,10 @@ use Rattle.siting_definitions.specs.Excluded.{is_excluded}
 use Rattle.siting_definitions.specs.Sites.{opening_cost, centre_cost}
 use Rattle.siting_definitions.specs.Marks.{reaches, Tally}
 use Rattle.siting_definitions.specs.Answer.{Best, Head, upper_cost, has_word}
-use Rattle.cert_checker.specs.declared.faults.TheConstants.{SITE_OUTSIDE, COST_DIFFERS, NOT_SHUT, BOUND_DIFFERS, WRONG_MARK, SPLIT_UNCALLED, LEAST_DIFFERS, WRONG_WORD, WRONG_COUNT, SITE_WORSE}
+use Rattle.cert_checker.specs.declared.faults.TheConstants.{SITE_OUTSIDE, COST_DIFFERS, NOT_SHUT}
+use Rattle.cert_checker.specs.declared.faults.TheConstants.{BOUND_DIFFERS, WRONG_MARK}
+use Rattle.cert_checker.specs.declared.faults.TheConstants.{SPLIT_UNCALLED, LEAST_DIFFERS}
+use Rattle.cert_checker.specs.declared.faults.TheConstants.{WRONG_WORD, WRONG_COUNT, SITE_WORSE}
 use Rattle.cert_checker.specs.declared.faults.CheckFault.{CheckFault}
 
 -- the first of two faults

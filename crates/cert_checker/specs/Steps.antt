@@ -1,7 +1,8 @@
 -- What a check answers.
 use Rattle.std.specs.Prelude.{◌≡◌, ℕ, List, [], Option, Some, Result, Ok, Err, ⊤}
 use Rattle.cert_checker.specs.declared.faults.CheckError.{CheckError}
-use Rattle.cert_checker.specs.declared.faults.CheckError.TheVariants.{Fault, ReadFault, TooLong, NoMemory}
+use Rattle.cert_checker.specs.declared.faults.CheckError.TheVariants.{Fault, ReadFault, TooLong}
+use Rattle.cert_checker.specs.declared.faults.CheckError.TheVariants.{NoMemory}
 use Rattle.cert_checker.specs.declared.checking.Accepted.{Accepted}
 
 -- the error is the one that was to be found; a source that fails and want of memory may come in its

@@ -6,7 +6,8 @@ ghost use Rattle.siting_definitions.specs.Answer.{upper_cost};
 ghost use Rattle.siting_definitions.specs.Sites as sites;
 ghost use Rattle.siting_definitions.specs.Marks as marks;
 ghost use Rattle.cert_checker.specs.Faults as faults;
-ghost use Rattle.cert_checker.specs.Faults.{best_fault, cost_line_of, head_fault_of, site_line_of, worse_fault};
+ghost use Rattle.cert_checker.specs.Faults.{best_fault, cost_line_of, head_fault_of, site_line_of};
+ghost use Rattle.cert_checker.specs.Faults.{worse_fault};
 
 use crate::faults::{COST_DIFFERS, CheckFault, SITE_OUTSIDE, SITE_WORSE, fault_at, value_fault};
 use answer_model::Head;

@@ -1,19 +1,30 @@
 //! Laws of checking. Each is a clause of a function that does nothing.
 
-ghost use Rattle.std.specs.Prelude.{◌≡◌, ℕ, ◌+◌, List, ◌++◌, length, map, None, Ok, ◌↔◌};
+ghost use Rattle.std.specs.Prelude.{◌≡◌, ◌↔◌, ℕ, ◌+◌, ◌<◌, ◌≤◌, ◌==◌, List, ◌++◌, length, map};
+ghost use Rattle.std.specs.Prelude.{count_by, None, Ok, Err};
 ghost use Rattle.siting_definitions.specs.declared.Mark.{Mark};
 ghost use Rattle.siting_definitions.specs.Square.{Square};
 ghost use Rattle.siting_definitions.specs.Marks.{Tally, tally_of, MarkFits, is_split};
-ghost use Rattle.siting_definitions.specs.Answer.{Answer, Head, upper_cost, HeadFits, EndFits, IsValid};
+ghost use Rattle.siting_definitions.specs.Answer.{Answer, Head, upper_cost, HeadFits, EndFits};
+ghost use Rattle.siting_definitions.specs.Answer.{IsValid};
 ghost use Rattle.siting_definitions.specs.AnswerText.{answer_text};
 ghost use Rattle.instance_text.specs.Reading.{and_then};
 ghost use Rattle.line_stream.specs.Coming.{Coming};
 ghost use Rattle.certificate.specs.Forms.{item_form};
 ghost use Rattle.answer_model.specs.Tally.{tally_sum};
-ghost use Rattle.cert_checker.specs.declared.faults.TheConstants.{FORM, INSTANCE, SITE_OUTSIDE, COST_DIFFERS, TREE_SHORT, TREE_LONG, NOT_SHUT, BOUND_DIFFERS, WRONG_MARK, SPLIT_UNCALLED, LEAST_DIFFERS, WRONG_WORD, WRONG_COUNT, SITE_WORSE};
+ghost use Rattle.cert_checker.specs.declared.faults.TheConstants.{FORM, INSTANCE, SITE_OUTSIDE};
+ghost use Rattle.cert_checker.specs.declared.faults.TheConstants.{COST_DIFFERS, TREE_SHORT};
+ghost use Rattle.cert_checker.specs.declared.faults.TheConstants.{TREE_LONG, NOT_SHUT};
+ghost use Rattle.cert_checker.specs.declared.faults.TheConstants.{BOUND_DIFFERS, WRONG_MARK};
+ghost use Rattle.cert_checker.specs.declared.faults.TheConstants.{SPLIT_UNCALLED, LEAST_DIFFERS};
+ghost use Rattle.cert_checker.specs.declared.faults.TheConstants.{WRONG_WORD, WRONG_COUNT};
+ghost use Rattle.cert_checker.specs.declared.faults.TheConstants.{SITE_WORSE};
+ghost use Rattle.cert_checker.specs.declared.faults.CheckError.TheVariants.{Fault};
 ghost use Rattle.cert_checker.specs.declared.checking.Accepted.{Accepted};
-ghost use Rattle.cert_checker.specs.Faults.{head_fault_of, mark_fault_of, end_fault_of};
-ghost use Rattle.cert_checker.specs.Checking.{Progress, accepted_of, checking, items_of, node_item, take_marks};
+ghost use Rattle.cert_checker.specs.Faults.{fault_at, head_fault_of, mark_fault_of, end_fault_of};
+ghost use Rattle.cert_checker.specs.Checking.{Progress, accepted_of, checking, items_of};
+ghost use Rattle.cert_checker.specs.Checking.{node_item, take_marks};
+ghost use Rattle.cert_checker.specs.CheckReading.{IsNeededSoFar};
 
 /// A head has no fault exactly where its site is permitted, with its own costs, and costs no more
 /// than the opening.
@@ -61,6 +72,19 @@ pub fn a_check_is_cut_in_two()
         → items_of h p r (front ++ rest)
         ≡ and_then (take_marks h (r.line + 1) ms p)
         (λ q. items_of h q (record r { line = r.line + length ms }) rest) }
+{}
+
+/// The text of a valid answer that is cut short, wherever that is, has its fault at the line that
+/// is missing: the line after the last whole one.
+pub fn cut_answers_are_refused()
+    ensures { (a : Answer) → IsValid a → (front rest : List ℕ)
+        → answer_text a ≡ front ++ rest → 0 < length rest
+        → checking front ≡ Err (Fault (fault_at FORM (count_by (λ b. b == 10) front + 1))) }
+{}
+
+/// A check reads at most 4,096 bytes past the 2^30 that an answer may have.
+pub fn a_check_reads_one_piece_past_its_limit()
+    ensures { (got : List ℕ) → IsNeededSoFar got → length got ≤ 1073741824 + 4096 }
 {}
 
 /// The number of each fault.

@@ -22,8 +22,9 @@ pub use faults::{
 };
 pub use head::{head_fault, opening_or_fault};
 pub use laws::{
-    a_check_is_cut_in_two, accepted_exactly_where_valid, ends_without_a_fault_fit,
-    faults_have_their_numbers, heads_without_a_fault_fit, marks_without_a_fault_fit,
+    a_check_is_cut_in_two, a_check_reads_one_piece_past_its_limit, accepted_exactly_where_valid,
+    cut_answers_are_refused, ends_without_a_fault_fit, faults_have_their_numbers,
+    heads_without_a_fault_fit, marks_without_a_fault_fit,
 };
 pub use mark::mark_fault;
 pub use walk::Walk;

@@ -208,6 +208,35 @@ fn the_first_fault_is_found(rt: HostRuntime) -> Result<(), Fail> {
 }
 
 #[test]
+fn cut_texts_lack_a_line(rt: HostRuntime) -> Result<(), Fail> {
+    // How many bytes of the first text are left, and the line that is missing.
+    for (left, line) in [
+        (0, 1),
+        (15, 1),
+        (16, 2),
+        (40, 4),
+        (70, 7),
+        (213, 17),
+        (214, 18),
+        (217, 18),
+    ] {
+        let mut bytes = Vec::from_slice(rt.alloc(), ONE_SQUARE)?;
+        bytes.truncate(left);
+        let mut source = MemSource::new(bytes, 7, Vec::new(rt.alloc()));
+        let wants = CheckFault {
+            number: 1,
+            line,
+            differ: None,
+        };
+        assert_eq!(rt;
+            refused(rt.alloc(), &mut source),
+            Err(CheckError::Fault(wants))
+        );
+    }
+    Ok(())
+}
+
+#[test]
 fn a_fault_comes_before_a_later_one_of_the_source(rt: HostRuntime) -> Result<(), Fail> {
     let wants = CheckFault {
         number: 8,

@@ -1,5 +1,5 @@
 -- How long the text of an answer can be.
-use Rattle.std.proofs.Common.{◌≡◌, ℕ, ◌+◌, ◌*◌, ◌^◌, ◌<◌, ◌≤◌, Bool, true, false, cond, ℤ, pos, negsuc, ◌+ℤ◌, ◌≤ℤ◌, List, [], ◌∷◌, ◌++◌, length, map, codes, Option, Some, None, refl, ap, subst, ◌∙◌, arith, w64}
+use Rattle.std.proofs.Common.{◌≡◌, ℕ, ◌+◌, ◌*◌, ◌^◌, ◌<◌, ◌≤◌, Bool, true, false, cond, ℤ, pos, negsuc, ◌+ℤ◌, ◌≤ℤ◌, List, [], ◌∷◌, ◌++◌, length, map, codes, Option, Some, None, refl, ap, ◌∙◌, arith, w64}
 use Rattle.std.specs.Prelude.{unsigned_abs, FitsSigned, All, MatchOption, ⊤}
 use Rattle.std.specs.List.{count_by}
 use Rattle.std.specs.Fmt.{signed_decimal}
@@ -9,20 +9,18 @@ use Rattle.siting_definitions.specs.declared.Mark.{Mark}
 use Rattle.siting_definitions.specs.declared.Mark.TheVariants.{Split, Shut, Bounded, Floor as FloorMark, Left}
 use Rattle.siting_definitions.specs.declared.Word.{Word}
 use Rattle.siting_definitions.specs.declared.Word.TheVariants.{Solved, PoolFull, Budget, Floor, Empty}
-use Rattle.siting_definitions.specs.Instance.{Instance, IsInstance}
+use Rattle.siting_definitions.specs.Instance.{Instance}
 use Rattle.siting_definitions.specs.Line.{line_text, text_of}
 use Rattle.siting_definitions.specs.InstanceText.{has_cutoff, version_field, instance_lines, instance_text}
 use Rattle.siting_definitions.specs.Square.{Square, IsSquare}
-use Rattle.siting_definitions.specs.Excluded.{box_of}
-use Rattle.siting_definitions.specs.Sites.{vertices, root_of}
+use Rattle.siting_definitions.specs.Sites.{root_of}
 use Rattle.siting_definitions.specs.Tree.{TreeSquare, preorder}
 use Rattle.siting_definitions.specs.Marks.{leaf_mark, SplitFits, MarksFit, is_split, tally_of}
 use Rattle.siting_definitions.specs.Answer.{Best, Head, Answer, upper_cost, IsBest, IsHead, IsMark, IsValid}
 use Rattle.siting_definitions.specs.AnswerText.{number_line, optional_line, site_line, cost_line, word_field, root_line, mark_line, head_lines, answer_text}
 use Rattle.siting_definitions.proofs.MarkLemmas.{leaf_unsplit, split_fits}
 use Rattle.dyadic_square.proofs.Trees.{tree-size}
-use Rattle.site_model.proofs.Vertices.{some_vertices, places_of, IsBoxWithin-bounds}
-use Rattle.site_model.proofs.Rooted.{root_is, IsSquare-over}
+use Rattle.site_model.proofs.Rooted.{IsSquare-root}
 use Rattle.text_lines.proofs.LineLengths.{count_length, number_length, width, length-line_text, one_length, two_length, length-text_of-append, length-text_of-cons, lines_length}
 use Rattle.instance_text.proofs.InstanceLengths.{length-instance_text}
 
@@ -62,14 +60,6 @@ field_length PoolFull = omega arith
 field_length Budget = omega arith
 field_length Floor = omega arith
 field_length Empty = omega arith
-
--- the starting square of an instance within the limits is within the limits
-root_within : (i : Instance) → IsInstance i → IsSquare (root_of i)
-root_within i is =
-    let vs = vertices i.permitted in
-    let some = is.few_permitted in
-    let box = IsBoxWithin-bounds vs (some_vertices i.permitted (omega arith) is.permitted) (places_of i.permitted is.permitted) in
-    subst IsSquare (root_is (box_of vs) i.permitted i refl refl) (IsSquare-over (box_of vs) box)
 
 within_grid : (x : ℤ) (side : ℕ) → pos 0 ≤ℤ (x +ℤ pos (2 ^ 38)) → (x +ℤ pos side) ≤ℤ pos (2 ^ 38) → unsigned_abs x ≤ 2 ^ 38
 within_grid x side low high = omega (arith, ints)
@@ -130,7 +120,7 @@ head_length h is =
       one_length (codes "answer") (word_field h.word) 9 (field_length h.word),
       one_length (codes "open") (signed_decimal (pos h.open_count)) 7 (few_length h.open_count is.open_count),
       one_length (codes "leases") (signed_decimal (pos h.leases)) 7 (few_length h.leases is.leases),
-      root_length (root_of h.instance) (root_within h.instance is.instance),
+      root_length (root_of h.instance) (IsSquare-root h.instance is.instance),
     ))
 
 -- ---- the marks

@@ -10,7 +10,7 @@ use Rattle.line_stream.specs.Input.{bytes_of}
 use Rattle.line_stream.specs.Coming.{Coming, next_line}
 use Rattle.line_stream.specs.Stream.{Stream, coming_in}
 use Rattle.line_stream.specs.LineReading.{after_front, InLine, IsLine, PieceRead}
-use Rattle.line_stream.proofs.LineLemmas.{Consumes-none, calm-none, after_front-nil, in_line-then, in_line-ends, in_line-fails}
+use Rattle.line_stream.proofs.LineLemmas.{Consumes-none, calm-none, in_line-none, in_line-then, in_line-ends, in_line-fails}
 use Rattle.certificate.specs.declared.reader.AnswerError.{AnswerError}
 use Rattle.certificate.specs.declared.reader.AnswerError.TheVariants.{Form, Instance as BadInstance, TooLong, ReadFault, NoMemory}
 use Rattle.certificate.specs.HeadReading.{answer_limit, answer_error, in_answer, answer_line, missing, add_line, part_of, if_canonical, or_bad_instance, instance_in, instance_part}
@@ -54,13 +54,7 @@ pub record InRest (before after : Stream) (part now : Option (List ℕ)) : Type 
 pub in_rest-start : (a : Stream) (part : Option (List ℕ)) → InRest a a part part
 in_rest-start a part = record {
   front = [];
-  in_line = record {
-    got = [];
-    consumes = Consumes-none a.left;
-    needed = inl refl;
-    reads = λ more rest. sym (after_front-nil (next_line (coming_in more answer_limit a.lines rest)));
-    calm = calm-none a;
-  };
+  in_line = in_line-none answer_limit a;
   grows = grows-none part;
 }
 
@@ -95,6 +89,7 @@ line_through a b front h = record {
   needed = line_needed next_line a.lines h.got h.needed;
   same = λ more rest. ap in_answer (h.reads more rest) ∙ in_answer-front front (next_line (coming_in more answer_limit b.lines rest));
   errors = λ e. refl;
+  count = h.count;
   calm = h.calm;
 }
 
@@ -106,6 +101,7 @@ line_done a b line h = record {
   needed = line_needed next_line a.lines h.got h.needed;
   same = λ more rest. ap in_answer (h.reads more rest);
   errors = λ e. refl;
+  count = h.count;
   calm = h.calm;
 }
 
@@ -235,7 +231,7 @@ after_part-nil (Err e) = refl
 pub in_part-start : (a : Stream) (part : Option (List ℕ)) → part ≡ Some [] → InPart a a part
 in_part-start a part is = record {
   bytes = [];
-  through = record { got = []; consumes = Consumes-none a.left; needed = inl refl; same = λ more rest. sym (after_part-nil (part_reading (coming_in more answer_limit a.lines rest))); errors = λ e. refl; calm = calm-none a };
+  through = record { got = []; consumes = Consumes-none a.left; needed = inl refl; same = λ more rest. sym (after_part-nil (part_reading (coming_in more answer_limit a.lines rest))); errors = λ e. refl; count = omega arith; calm = calm-none a };
   keeps = is;
 }
 
@@ -253,6 +249,7 @@ line_more b c line k other = record {
       let r = coming_in more answer_limit b.lines (k.got ++ rest) in
       part_more r.input.lines r.input.partial r.input.goes_on r.line line (coming_in more answer_limit c.lines rest) (k.reads more rest) other;
   errors = λ e. refl;
+  count = k.count;
   calm = k.counts;
 }
 
@@ -269,6 +266,7 @@ in_part-next a b c part now h next =
         needed = through.needed;
         same = λ more rest. through.same more rest ∙ after_part-append h.bytes line (part_reading (coming_in more answer_limit c.lines rest));
         errors = λ e. refl;
+        count = through.count;
         calm = through.calm;
       };
       keeps = next.1.grows h.bytes h.keeps;
@@ -286,6 +284,7 @@ in_part-ends a b c part now h next =
       reads = λ more rest.
           let r = coming_in more answer_limit b.lines (k.got ++ rest) in
           part_last r.input.lines r.input.partial r.input.goes_on r.line next.0 (coming_in more answer_limit c.lines rest) (k.reads more rest) (sym next.2);
+      count = k.count;
       counts = k.counts;
     } in
     (h.bytes ++ line, through_value true part_reading part_reading (after_part h.bytes) a b c h.through line (h.bytes ++ line) (λ r. refl) last, next.1.grows h.bytes h.keeps)

@@ -3,14 +3,15 @@ use Rattle.std.proofs.Common.{◌≡◌, ℕ, ◌≤◌, Bool, true, false, List
 use Rattle.std.specs.Prelude.{⊤}
 use Rattle.std.specs.Result.{IsErrAnd}
 use Rattle.std.specs.Io.KnownBytes.{Consumes}
+use Rattle.std.proofs.lemmas.List.{length-append}
 use Rattle.instance_text.specs.Reading.{and_then}
 use Rattle.port_io.proofs.SourceLemmas.{Consumes-then}
 use Rattle.line_stream.specs.declared.lines.LineError.{LineError}
 use Rattle.line_stream.specs.declared.lines.LineError.TheVariants.{Missing, Surplus, TooLong as LineTooLong, Failed as SourceFailed}
 use Rattle.line_stream.specs.Coming.{Coming, next_line, input_end}
-use Rattle.line_stream.specs.Stream.{LinesState, Stream, IsCalm, coming_in, Settles, IsNeeded}
+use Rattle.line_stream.specs.Stream.{LinesState, Stream, IsCalm, AreTaken, coming_in, Settles, IsNeeded}
 use Rattle.line_stream.specs.LineReading.{Blames as LineBlames, IsLine, IsStopped, IsKept, LineRead, EndRead as LinesEndRead}
-use Rattle.line_stream.proofs.LineLemmas.{Consumes-none, calm-none, calm-then, ended-then, rose-then, needed-kept, needed-last}
+use Rattle.line_stream.proofs.LineLemmas.{Consumes-none, calm-none, calm-then, ended-then, rose-then, needed-kept, needed-last, needed_as, open_as, open_after}
 use Rattle.certificate.specs.declared.reader.AnswerError.{AnswerError}
 use Rattle.certificate.specs.declared.reader.AnswerError.TheVariants.{Form, Instance as BadInstance, TooLong, ReadFault, NoMemory}
 use Rattle.certificate.specs.HeadReading.{answer_limit, answer_error, in_answer, answer_line, or_form, formed, end_of}
@@ -26,6 +27,7 @@ pub record IsThrough {T U : Type 0} (wanted : Coming → Result U AnswerError) (
   pub needed : IsNeeded answer_limit wanted TooLong before.lines got
   pub same : (more : Bool) (rest : List ℕ) → wanted (coming_in more answer_limit before.lines (got ++ rest)) ≡ change (later (coming_in more answer_limit after.lines rest))
   pub errors : (e : AnswerError) → change (Err e) ≡ Err e
+  pub count : AreTaken before.lines after.lines got
   pub calm : IsCalm before after
 
 error_or : {T : Type 0} → AnswerError → Result T AnswerError → AnswerError
@@ -59,7 +61,7 @@ module _ {T U : Type 0} (wanted : Coming → Result U AnswerError) (later : Comi
   through_needed : (got : List ℕ) → IsNeeded answer_limit later TooLong b.lines got → IsNeeded answer_limit wanted TooLong a.lines (h.got ++ got)
   through_needed got (inl none) = needed-kept answer_limit wanted TooLong a.lines h.got got none h.needed
   through_needed got (inr last) =
-      needed-last answer_limit wanted TooLong a.lines h.got last.front last.piece got last.parts last.few (h.same true last.front ∙ (ap change last.undecided ∙ h.errors TooLong))
+      needed-last answer_limit wanted TooLong later TooLong a.lines b.lines h.got got h.count (λ front is. h.same true front ∙ (ap change is ∙ h.errors TooLong)) last
 
   -- an answer that is settled is settled before
   through_same : (got : List ℕ) (r : Result T AnswerError) (more : Bool) (rest : List ℕ) → later (coming_in more answer_limit b.lines (got ++ rest)) ≡ r → wanted (coming_in more answer_limit a.lines ((h.got ++ got) ++ rest)) ≡ change r
@@ -76,7 +78,8 @@ module _ {T U : Type 0} (wanted : Coming → Result U AnswerError) (later : Comi
       inr (h.same false got ∙ (ap change ended.0 ∙ h.errors (Form line)), ended-then a.left b.left c.left h.got h.consumes ended.1)
   through_stops n got BadInstance stops = through_settles got BadInstance stops
   through_stops n got TooLong stops = through_settles got TooLong stops
-  through_stops n got ReadFault stops = h.same true got ∙ (ap change stops ∙ h.errors TooLong)
+  through_stops n got ReadFault stops =
+      open_after answer_limit wanted TooLong later TooLong a.lines b.lines h.got got h.count (λ is. h.same true got ∙ (ap change is ∙ h.errors TooLong)) stops
   through_stops n got NoMemory stops = stops
 
 module _ {T U : Type 0} (n : Bool) (wanted : Coming → Result (U × Coming) AnswerError) (later : Coming → Result (T × Coming) AnswerError) (change : Result (T × Coming) AnswerError → Result (U × Coming) AnswerError) (a b c : Stream) (h : IsThrough wanted later change a b) where
@@ -87,6 +90,7 @@ module _ {T U : Type 0} (n : Bool) (wanted : Coming → Result (U × Coming) Ans
     consumes = Consumes-then a.left b.left c.left h.got k.got h.consumes k.consumes;
     needed = through_needed wanted later change a b c h k.got k.needed;
     reads = through_stops wanted later change a b c h n k.got e k.reads;
+    count = tt;
     counts = blames_later a b c e h.calm k.counts;
   }
 
@@ -97,6 +101,7 @@ module _ {T U : Type 0} (n : Bool) (wanted : Coming → Result (U × Coming) Ans
     consumes = Consumes-then a.left b.left c.left h.got k.got h.consumes k.consumes;
     needed = through_needed wanted later change a b c h k.got k.needed;
     reads = λ more rest. through_same wanted later change a b c h k.got (Ok (v, coming_in more answer_limit c.lines rest)) more rest (k.reads more rest) ∙ is (coming_in more answer_limit c.lines rest);
+    count = (let more : AreTaken b.lines c.lines k.got = k.count in omega (arith, h.count, more, length-append h.got k.got));
     counts = calm-then a b c h.calm k.counts;
   }
 
@@ -107,6 +112,7 @@ module _ {T U : Type 0} (n : Bool) (wanted : Coming → Result (U × Coming) Ans
     consumes = h.consumes;
     needed = h.needed;
     reads = refl;
+    count = tt;
     counts = h.calm;
   }
 
@@ -119,6 +125,7 @@ through_then wanted later last change change' a b c h k = record {
   needed = through_needed wanted later change a b c h k.got k.needed;
   same = λ more rest. through_same wanted later change a b c h k.got (change' (last (coming_in more answer_limit c.lines rest))) more rest (k.same more rest);
   errors = λ e. ap change (k.errors e) ∙ h.errors e;
+  count = omega (arith, h.count, k.count, length-append h.got k.got);
   calm = calm-then a b c h.calm k.calm;
 }
 
@@ -144,8 +151,7 @@ stops_lines n wanted a b lines got NoMemory stops = stops
 -- what fails as another thing does that was wanted
 pub needed_also : {T U : Type 0} (f : Coming → Result T AnswerError) (g : Coming → Result U AnswerError) → ((r : Coming) (e : AnswerError) → f r ≡ Err e → g r ≡ Err e)
     → (s : LinesState) (got : List ℕ) → IsNeeded answer_limit f TooLong s got → IsNeeded answer_limit g TooLong s got
-needed_also f g also s got (inl none) = inl none
-needed_also f g also s got (inr last) = inr (record { front = last.front; piece = last.piece; parts = last.parts; few = last.few; undecided = also _ TooLong last.undecided })
+needed_also f g also s got needed = needed_as answer_limit f TooLong g TooLong (λ r is. also r TooLong is) s got needed
 
 pub error_also : {T U : Type 0} (n : Bool) (f : Coming → Result (T × Coming) AnswerError) (g : Coming → Result (U × Coming) AnswerError) → ((r : Coming) (e : AnswerError) → f r ≡ Err e → g r ≡ Err e)
     → (a b : Stream) (e : AnswerError) → ReadWith {T = T} n f a b (Err e) → ReadWith {T = U} n g a b (Err e)
@@ -154,6 +160,7 @@ error_also n f g also a b e h = record {
   consumes = h.consumes;
   needed = needed_also f g also a.lines h.got h.needed;
   reads = by_error e h.reads;
+  count = tt;
   counts = h.counts;
 }
   where
@@ -162,12 +169,12 @@ error_also n f g also a b e h = record {
     by_error (Form line) (inr ended) = inr (also _ (Form line) ended.0, ended.1)
     by_error BadInstance settles = λ more rest. also _ BadInstance (settles more rest)
     by_error TooLong settles = λ more rest. also _ TooLong (settles more rest)
-    by_error ReadFault undecided = also _ TooLong undecided
+    by_error ReadFault is_open = open_as answer_limit f TooLong g TooLong (λ r is. also r TooLong is) a.lines h.got is_open
     by_error NoMemory takes = takes
 
 -- at an error it doesn't count what the lines hold
 error_lines : {T : Type 0} {n : Bool} (wanted : Coming → Result (T × Coming) AnswerError) (a b : Stream) (lines : LinesState) (e : AnswerError) → ReadWith {T = T} n wanted a b (Err e) → ReadWith {T = T} n wanted a (record b { lines = lines }) (Err e)
-error_lines {n = n} wanted a b lines e h = record { got = h.got; consumes = h.consumes; needed = h.needed; reads = stops_lines n wanted a b lines h.got e h.reads; counts = blames_lines a b lines e h.counts }
+error_lines {n = n} wanted a b lines e h = record { got = h.got; consumes = h.consumes; needed = h.needed; reads = stops_lines n wanted a b lines h.got e h.reads; count = tt; counts = blames_lines a b lines e h.counts }
 
 -- a source is strict or not, whatever is read of it
 strict_blames : (a b : Stream) (e : AnswerError) → BlamesAs a b e → BlamesAs a (record b { is_strict = a.is_strict }) e
@@ -190,7 +197,7 @@ pub error_start : {T : Type 0} {n : Bool} (wanted : Coming → Result (T × Comi
 error_start {n = n} wanted a b lines e h =
     let here : Stream = record b { lines = lines } in
     let k = error_lines {n = n} wanted a b lines e h in
-    record { got = k.got; consumes = k.consumes; needed = k.needed; reads = strict_stops n wanted a here a.is_strict k.got e k.reads; counts = strict_blames a here e k.counts }
+    record { got = k.got; consumes = k.consumes; needed = k.needed; reads = strict_stops n wanted a here a.is_strict k.got e k.reads; count = tt; counts = strict_blames a here e k.counts }
 
 -- what is wanted in other words
 pub read_also : {T : Type 0} (n : Bool) (f g : Coming → Result (T × Coming) AnswerError) → ((r : Coming) → f r ≡ g r) → (a b : Stream) (result : Result T AnswerError) → ReadWith n f a b result → ReadWith n g a b result
@@ -199,6 +206,7 @@ read_also n f g same a b (Ok v) h = record {
   consumes = h.consumes;
   needed = needed_also f g (λ r e is. sym (same r) ∙ is) a.lines h.got h.needed;
   reads = λ more rest. sym (same (coming_in more answer_limit a.lines (h.got ++ rest))) ∙ h.reads more rest;
+  count = h.count;
   counts = h.counts;
 }
 read_also n f g same a b (Err e) h = error_also n f g (λ r e is. sym (same r) ∙ is) a b e h
@@ -213,8 +221,7 @@ module _ {T U : Type 0} (f : Coming → Result (T × Coming) AnswerError) (g : T
 
   -- what leaves the first open leaves both open
   both_needed : (s : LinesState) (got : List ℕ) → IsNeeded answer_limit f TooLong s got → IsNeeded answer_limit both TooLong s got
-  both_needed s got (inl none) = inl none
-  both_needed s got (inr last) = inr (record { front = last.front; piece = last.piece; parts = last.parts; few = last.few; undecided = ap rest_of last.undecided })
+  both_needed s got needed = needed_as answer_limit f TooLong both TooLong (λ r is. ap rest_of is) s got needed
 
   -- after the value of the first the second is wanted
   after_value : {m : Bool} (a b : Stream) (v : T) → ReadWith m f a b (Ok v) → IsThrough both (g v) (λ r. r) a b
@@ -224,12 +231,13 @@ module _ {T U : Type 0} (f : Coming → Result (T × Coming) AnswerError) (g : T
     needed = both_needed a.lines h.got h.needed;
     same = λ more rest. ap rest_of (h.reads more rest);
     errors = λ e. refl;
+    count = h.count;
     calm = h.counts;
   }
 
   -- at the start the first is wanted
   from_start : (a : Stream) → IsThrough both f rest_of a a
-  from_start a = record { got = []; consumes = Consumes-none a.left; needed = inl refl; same = λ more rest. refl; errors = λ e. refl; calm = calm-none a }
+  from_start a = record { got = []; consumes = Consumes-none a.left; needed = inl refl; same = λ more rest. refl; errors = λ e. refl; count = omega arith; calm = calm-none a }
 
   -- the first read a value, and the second answers
   pub read_then : {m n : Bool} (a b c : Stream) (v : T) (result : Result U AnswerError) → ReadWith m f a b (Ok v) → ReadWith n (g v) b c result → ReadWith n both a c result
@@ -245,7 +253,7 @@ module _ {T U : Type 0} (f : Coming → Result (T × Coming) AnswerError) (g : T
 -- ---- calls that read nothing
 pub read_none : {T : Type 0} {n : Bool} (wanted : Coming → Result (T × Coming) AnswerError) (a : Stream) (v : T)
     → ((more : Bool) (rest : List ℕ) → wanted (coming_in more answer_limit a.lines rest) ≡ Ok (v, coming_in more answer_limit a.lines rest)) → ReadWith n wanted a a (Ok v)
-read_none wanted a v is = record { got = []; consumes = Consumes-none a.left; needed = inl refl; reads = is; counts = calm-none a }
+read_none wanted a v is = record { got = []; consumes = Consumes-none a.left; needed = inl refl; reads = is; count = omega arith; counts = calm-none a }
 
 -- that the instance isn't canonical is settled without reading on
 pub settled_here : {T : Type 0} {n : Bool} (wanted : Coming → Result (T × Coming) AnswerError) (a : Stream) → Settles answer_limit wanted a.lines [] (Err BadInstance) → ReadWith {T = T} n wanted a a (Err BadInstance)
@@ -254,6 +262,7 @@ settled_here wanted a settles = record {
   consumes = Consumes-none a.left;
   needed = inl refl;
   reads = settles;
+  count = tt;
   counts = calm-none a;
 }
 
@@ -264,13 +273,14 @@ memory_here wanted a = record {
   consumes = Consumes-none a.left;
   needed = inl refl;
   reads = refl;
+  count = tt;
   counts = calm-none a;
 }
 
 -- what needs no memory may be said of one that takes it
 pub in_memory : {T : Type 0} {n : Bool} (wanted : Coming → Result (T × Coming) AnswerError) (a b : Stream) (result : Result T AnswerError) → ReadWith false wanted a b result → ReadWith n wanted a b result
-in_memory wanted a b (Ok v) h = record { got = h.got; consumes = h.consumes; needed = h.needed; reads = h.reads; counts = h.counts }
-in_memory {n = n} wanted a b (Err e) h = record { got = h.got; consumes = h.consumes; needed = h.needed; reads = by_error e h.reads; counts = h.counts }
+in_memory wanted a b (Ok v) h = record { got = h.got; consumes = h.consumes; needed = h.needed; reads = h.reads; count = h.count; counts = h.counts }
+in_memory {n = n} wanted a b (Err e) h = record { got = h.got; consumes = h.consumes; needed = h.needed; reads = by_error e h.reads; count = tt; counts = h.counts }
   where
     by_error : (e : AnswerError) → StopsAs false wanted a b h.got e → StopsAs n wanted a b h.got e
     by_error (Form line) stops = stops
@@ -282,8 +292,8 @@ in_memory {n = n} wanted a b (Err e) h = record { got = h.got; consumes = h.cons
 -- ---- lines
 -- what leaves a line open leaves it open for an answer
 pub line_needed : {T : Type 0} (wanted : Coming → Result T LineError) (s : LinesState) (got : List ℕ) → IsNeeded answer_limit wanted LineTooLong s got → IsNeeded answer_limit (λ r. in_answer (wanted r)) TooLong s got
-line_needed wanted s got (inl none) = inl none
-line_needed wanted s got (inr last) = inr (record { front = last.front; piece = last.piece; parts = last.parts; few = last.few; undecided = ap in_answer last.undecided })
+line_needed wanted s got needed =
+    needed_as answer_limit wanted LineTooLong (λ r. in_answer (wanted r)) TooLong (λ r is. ap in_answer is) s got needed
 
 -- a line was read
 pub line_read : {n : Bool} (a b : Stream) (line : List ℕ) → IsLine answer_limit a b line → ReadWith n answer_line a b (Ok line)
@@ -292,6 +302,7 @@ line_read a b line h = record {
   consumes = h.consumes;
   needed = line_needed next_line a.lines h.got h.needed;
   reads = λ more rest. ap in_answer (h.reads more rest);
+  count = h.count;
   counts = h.calm;
 }
 
@@ -301,7 +312,8 @@ module _ {T : Type 0} (wanted : Coming → Result T LineError) (a b : Stream) wh
   stopped_as n got (Missing line) h = inr (ap in_answer h.stops.0, h.stops.1)
   stopped_as n got (Surplus line) h = inl (λ more rest. ap in_answer (h.stops more rest))
   stopped_as n got LineTooLong h = λ more rest. ap in_answer (h.stops more rest)
-  stopped_as n got SourceFailed h = ap in_answer h.stops
+  stopped_as n got SourceFailed h =
+      open_as answer_limit wanted LineTooLong (λ r. in_answer (wanted r)) TooLong (λ r is. ap in_answer is) a.lines h.got h.stops
 
   -- the cause of an error of the lines, as of one of an answer
   stopped_blames : (e : LineError) → LineBlames a b e → BlamesAs a b (answer_error e)
@@ -317,6 +329,7 @@ line_stopped {n = n} a b e h = record {
   consumes = h.consumes;
   needed = line_needed next_line a.lines h.got h.needed;
   reads = stopped_as next_line a b n h.got e h;
+  count = tt;
   counts = stopped_blames next_line a b e h.blames;
 }
 
@@ -336,6 +349,7 @@ formed_here form line b at None is same = record {
   consumes = Consumes-none b.left;
   needed = inl refl;
   reads = inl (λ more rest. ap (λ o. or_form o (coming_in more answer_limit b.lines rest)) is ∙ ap (λ k. Err (Form k)) (sym same));
+  count = tt;
   counts = calm-none b;
 }
 

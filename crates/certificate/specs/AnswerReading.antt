@@ -1,12 +1,15 @@
 -- What a call reads of an answer: how far it goes on, and what it answers.
-use Rattle.std.specs.Prelude.{◌≡◌, ℕ, ◌≤◌, ◌⊎◌, Bool, true, false, List, ◌++◌, Result, Ok, Err, ⊤}
+use Rattle.std.specs.Prelude.{◌≡◌, ℕ, ◌≤◌, ◌⊎◌, Bool, true, false, List, ◌++◌, Result, Ok, Err}
+use Rattle.std.specs.Prelude.{IfOk, ⊤}
 use Rattle.std.specs.Io.KnownBytes.{Consumes}
 use Rattle.port_io.specs.Faults.{Rose}
 use Rattle.line_stream.specs.Coming.{Coming}
-use Rattle.line_stream.specs.Stream.{Stream, IsCalm, coming_in, Settles, IsNeeded, HasEnded}
+use Rattle.line_stream.specs.Stream.{Stream, IsCalm, AreTaken, coming_in, Settles, LeavesOpen}
+use Rattle.line_stream.specs.Stream.{IsNeeded, HasEnded}
 use Rattle.line_stream.specs.LineReading.{IsEnd}
 use Rattle.certificate.specs.declared.reader.AnswerError.{AnswerError}
-use Rattle.certificate.specs.declared.reader.AnswerError.TheVariants.{Form, Instance as BadInstance, TooLong, ReadFault, NoMemory}
+use Rattle.certificate.specs.declared.reader.AnswerError.TheVariants.{Form, Instance as BadInstance}
+use Rattle.certificate.specs.declared.reader.AnswerError.TheVariants.{TooLong, ReadFault, NoMemory}
 use Rattle.certificate.specs.HeadReading.{answer_limit, end_of}
 
 -- What is known at an error of what was wanted, where these bytes were read of the source: it is
@@ -23,7 +26,7 @@ StopsAs takes wanted before after got BadInstance =
 StopsAs takes wanted before after got TooLong =
     Settles answer_limit wanted before.lines got (Err TooLong)
 StopsAs takes wanted before after got ReadFault =
-    wanted (coming_in true answer_limit before.lines got) ≡ Err TooLong
+    LeavesOpen answer_limit wanted TooLong before.lines got
 StopsAs takes wanted before after got NoMemory = takes ≡ true
 
 -- at `Ok` the value, whatever comes after the bytes that were read, with those still to come
@@ -55,6 +58,7 @@ pub record ReadWith {T : Type 0} (takes : Bool) (wanted : Coming → Result (T �
   pub consumes : Consumes before.left after.left got
   pub needed : IsNeeded answer_limit wanted TooLong before.lines got
   pub reads : ReadsAs takes wanted before after got result
+  pub count : IfOk result (λ _. AreTaken before.lines after.lines got)
   pub counts : CountsAs before after result
 
 -- a call that takes no memory

@@ -1,5 +1,6 @@
 -- What contracts see of the beginning of an answer.
-use Rattle.std.specs.Prelude.{◌≡◌, ℕ, Bool, false, List, [], Option, Some, option_map, Result, Ok, Err, ⊤}
+use Rattle.std.specs.Prelude.{◌≡◌, ℕ, Bool, false, List, [], Option, Some, option_map, Result, Ok}
+use Rattle.std.specs.Prelude.{Err, ⊤}
 use Rattle.siting_definitions.specs.Answer.{Head}
 use Rattle.certificate.specs.declared.reader.beginning.Beginning.{Beginning}
 use Rattle.certificate.specs.declared.reader.AnswerError.{AnswerError}

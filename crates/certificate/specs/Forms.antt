@@ -1,6 +1,8 @@
 -- The forms of the lines of an answer, each with the value that a line of the form has. A number is
 -- in canonical decimal, and in its range.
-use Rattle.std.specs.Prelude.{ℕ, ◌+◌, ◌-◌, ◌^◌, ◌==◌, nat_eq, ℤ, pos, int_le, neg_ℤ, Bool, true, false, ◌&&◌, if◌then◌else◌, List, [], ◌∷◌, ◌++◌, drop, length, slice_index, codes, Option, Some, None}
+use Rattle.std.specs.Prelude.{ℕ, ◌+◌, ◌-◌, ◌^◌, ◌==◌, nat_eq, ℤ, pos, int_le, neg_ℤ, Bool, true}
+use Rattle.std.specs.Prelude.{false, ◌&&◌, if◌then◌else◌, List, [], ◌∷◌, ◌++◌, drop, length}
+use Rattle.std.specs.Prelude.{slice_index, codes, Option, Some, None}
 use Rattle.std.specs.Option.{option_map, option_and_then}
 use Rattle.std.specs.List.{starts_with}
 use Rattle.std.specs.Str.{bytes_eq}
@@ -8,9 +10,11 @@ use Rattle.std.specs.Fmt.{signed_decimal}
 use Rattle.text_lines.specs.Numbers.{number_of}
 use Rattle.text_lines.specs.Words.{line_bytes}
 use Rattle.siting_definitions.specs.declared.Mark.{Mark}
-use Rattle.siting_definitions.specs.declared.Mark.TheVariants.{Split, Shut, Bounded, Floor as FloorMark, Left}
+use Rattle.siting_definitions.specs.declared.Mark.TheVariants.{Split, Shut, Bounded}
+use Rattle.siting_definitions.specs.declared.Mark.TheVariants.{Floor as FloorMark, Left}
 use Rattle.siting_definitions.specs.declared.Word.{Word}
-use Rattle.siting_definitions.specs.declared.Word.TheVariants.{Solved, PoolFull, Budget, Floor, Empty}
+use Rattle.siting_definitions.specs.declared.Word.TheVariants.{Solved, PoolFull, Budget, Floor}
+use Rattle.siting_definitions.specs.declared.Word.TheVariants.{Empty}
 use Rattle.siting_definitions.specs.Point.{Pt}
 use Rattle.siting_definitions.specs.Square.{Square}
 use Rattle.siting_definitions.specs.Answer.{Best}

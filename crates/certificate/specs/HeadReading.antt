@@ -1,5 +1,6 @@
 -- The head of an answer as it is read, line by line, and the first fault of its form.
-use Rattle.std.specs.Prelude.{ℕ, ◌+◌, ◌^◌, ℤ, unsigned_abs, Bool, true, false, ◌&&◌, if◌then◌else◌, List, [], ◌∷◌, length, codes, Option, Some, None, Result, Ok, Err, ⊤}
+use Rattle.std.specs.Prelude.{ℕ, ◌+◌, ◌^◌, ℤ, unsigned_abs, Bool, true, false, ◌&&◌, if◌then◌else◌}
+use Rattle.std.specs.Prelude.{List, [], ◌∷◌, length, codes, Option, Some, None, Result, Ok, Err, ⊤}
 use Rattle.std.specs.Str.{bytes_eq}
 use Rattle.siting_definitions.specs.declared.Word.{Word}
 use Rattle.siting_definitions.specs.Instance.{Instance}
@@ -9,12 +10,17 @@ use Rattle.siting_definitions.specs.Answer.{Best, Head}
 use Rattle.instance_text.specs.declared.faults.InstanceFault.{InstanceFault}
 use Rattle.instance_text.specs.Reading.{reading, and_then}
 use Rattle.certificate.specs.declared.reader.AnswerError.{AnswerError}
-use Rattle.certificate.specs.declared.reader.AnswerError.TheVariants.{Form, Instance as BadInstance, TooLong, ReadFault}
+use Rattle.certificate.specs.declared.reader.AnswerError.TheVariants.{Form, Instance as BadInstance}
+use Rattle.certificate.specs.declared.reader.AnswerError.TheVariants.{TooLong, ReadFault}
 use Rattle.line_stream.specs.declared.lines.LineError.{LineError}
-use Rattle.line_stream.specs.declared.lines.LineError.TheVariants.{Missing, Surplus, TooLong as LineTooLong, Failed as SourceFailed}
+use Rattle.line_stream.specs.declared.lines.LineError.TheVariants.{Missing, Surplus}
+use Rattle.line_stream.specs.declared.lines.LineError.TheVariants.{TooLong as LineTooLong}
+use Rattle.line_stream.specs.declared.lines.LineError.TheVariants.{Failed as SourceFailed}
 use Rattle.line_stream.specs.Input.{Input, input_of, bytes_of}
 use Rattle.line_stream.specs.Coming.{Coming, missing_line, next_line, input_end}
-use Rattle.certificate.specs.Forms.{version_form, gap_form, budget_form, pool_form, site_form, cost_form, bound_form, word_form, open_form, leases_form, root_form}
+use Rattle.certificate.specs.Forms.{version_form, gap_form, budget_form, pool_form, site_form}
+use Rattle.certificate.specs.Forms.{cost_form, bound_form, word_form, open_form, leases_form}
+use Rattle.certificate.specs.Forms.{root_form}
 
 -- how many bytes of an answer may be read
 abbrev pub answer_limit : ℕ

@@ -1,14 +1,15 @@
 -- The reading of the lines of the instance.
-use Rattle.std.specs.Prelude.{◌≡◌, ℕ, ◌+◌, ◌≤◌, Bool, List, ◌∷◌, [], ◌++◌, length, codes, Option, Some, None, option_and_then, bytes_eq, Result, Ok, Err, ⊤}
-use Rattle.std.specs.Io.KnownBytes.{Consumes}
+use Rattle.std.specs.Prelude.{◌≡◌, ℕ, ◌+◌, ◌≤◌, Bool, List, ◌∷◌, [], ◌++◌, length, codes, Option}
+use Rattle.std.specs.Prelude.{Some, None, option_and_then, bytes_eq, Result, Ok, Err, ⊤}
 use Rattle.port_io.specs.Bytes.{told}
 use Rattle.line_stream.specs.Input.{bytes_of}
 use Rattle.line_stream.specs.Coming.{Coming}
-use Rattle.line_stream.specs.Stream.{Stream, coming_in, IsNeeded}
+use Rattle.line_stream.specs.Stream.{Stream}
 use Rattle.siting_definitions.specs.Instance.{Instance}
 use Rattle.instance_text.specs.Reading.{reading}
 use Rattle.certificate.specs.declared.reader.AnswerError.{AnswerError}
-use Rattle.certificate.specs.declared.reader.AnswerError.TheVariants.{Form, Instance as BadInstance, TooLong, ReadFault, NoMemory}
+use Rattle.certificate.specs.declared.reader.AnswerError.TheVariants.{Form, Instance as BadInstance}
+use Rattle.certificate.specs.declared.reader.AnswerError.TheVariants.{TooLong, ReadFault, NoMemory}
 use Rattle.certificate.specs.HeadReading.{answer_limit, answer_line, missing, part_of, if_canonical}
 use Rattle.certificate.specs.AnswerReading.{ReadInMemory}
 
@@ -70,16 +71,6 @@ abbrev pub PartLineRead : Stream → Stream → Option (List ℕ) → Option (Li
 PartLineRead before after part now (Ok is_end) =
     (line : List ℕ) × LineInPart before after part now line × (is_end ≡ bytes_eq line (codes "end"))
 PartLineRead before after part now (Err error) = NoLine before after error
-
--- within the lines of the instance, of which these bytes were read
-pub record InPart (before after : Stream) (bytes : List ℕ) : Type 0 where
-  pub got : List ℕ
-  pub consumes : Consumes before.left after.left got
-  pub needed : IsNeeded answer_limit part_reading TooLong before.lines got
-  pub reads : (more : Bool) (rest : List ℕ)
-      → part_reading (coming_in more answer_limit before.lines (got ++ rest))
-      ≡ after_part bytes (part_reading (coming_in more answer_limit after.lines rest))
-  pub later : before.faults ≤ after.faults
 
 -- the lines of the instance were read and kept
 abbrev pub PartRead : Stream → Stream → Result (Option (List ℕ)) AnswerError → Type 0

@@ -1,12 +1,14 @@
 -- What contracts see of a reader of an answer: what is still to come of the answer, and what a call
 -- reads of it.
-use Rattle.std.specs.Prelude.{◌≡◌, ℕ, Bool, false, List, [], Option, Some, option_map, Result, Ok, Err, ⊤}
+use Rattle.std.specs.Prelude.{◌≡◌, ℕ, Bool, false, List, [], Option, Some, option_map, Result, Ok}
+use Rattle.std.specs.Prelude.{Err, ⊤}
 use Rattle.siting_definitions.specs.Answer.{Head}
 use Rattle.line_stream.specs.Coming.{Coming}
 use Rattle.line_stream.specs.Stream.{Stream, stream, coming_in}
 use Rattle.certificate.specs.declared.reader.AnswerReader.{AnswerReader}
 use Rattle.certificate.specs.declared.reader.AnswerError.{AnswerError}
-use Rattle.certificate.specs.declared.reader.AnswerError.TheVariants.{Form, Instance as BadInstance, TooLong, ReadFault, NoMemory}
+use Rattle.certificate.specs.declared.reader.AnswerError.TheVariants.{Form, Instance as BadInstance}
+use Rattle.certificate.specs.declared.reader.AnswerError.TheVariants.{TooLong, ReadFault, NoMemory}
 use Rattle.certificate.specs.HeadReading.{answer_limit}
 
 -- what is still to come of the answer, where the reader's source, with these members, tells its

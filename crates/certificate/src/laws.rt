@@ -1,6 +1,7 @@
 //! Laws of the texts of answers.
 
-ghost use Rattle.std.specs.Prelude.{◌≡◌, ◌↔◌, ◌+◌, ◌*◌, ◌<◌, ◌≤◌, ℕ, true, false, List, [], ◌++◌, length, codes, Some, Ok, All};
+ghost use Rattle.std.specs.Prelude.{◌≡◌, ◌↔◌, ◌+◌, ◌*◌, ◌<◌, ◌≤◌, ℕ, true, false, List, [], ◌++◌};
+ghost use Rattle.std.specs.Prelude.{length, codes, Some, Ok, All};
 ghost use Rattle.text_lines.specs.Words.{line_bytes};
 ghost use Rattle.siting_definitions.specs.declared.Mark.{Mark};
 ghost use Rattle.siting_definitions.specs.Answer.{Answer, Head, IsHead, IsMark, IsValid};

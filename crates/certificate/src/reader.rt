@@ -3,7 +3,8 @@
 ghost use Rattle.std.specs.Prelude.{◌≡◌, IfSome, option_map};
 ghost use Rattle.certificate.specs.Forms.{item_form as form_of_item};
 ghost use Rattle.certificate.specs.HeadReading.{answer_error, coming_of, formed, end_of};
-ghost use Rattle.certificate.specs.ReaderView.{coming, source_of, faults_of, line_of, stream_of, stream_over, ReadsTo, EndsAs, TakesNone};
+ghost use Rattle.certificate.specs.ReaderView.{coming, source_of, faults_of, line_of, stream_of};
+ghost use Rattle.certificate.specs.ReaderView.{stream_over, ReadsTo, EndsAs, TakesNone};
 ghost use Rattle.certificate.specs.AnswerReading.{Read, EndRead};
 ghost use Rattle.certificate.specs.Beginnings.{start_of};
 ghost use Rattle.certificate.specs.Blames.{Blames};

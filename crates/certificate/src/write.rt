@@ -4,7 +4,9 @@ ghost use Rattle.std.specs.Prelude.{◌≡◌, [], ◌∷◌, ◌++◌, map, fla
 ghost use Rattle.std.specs.Fmt.{signed_decimal};
 ghost use Rattle.port_io.specs.Output.{IsOpen, PutOn};
 ghost use Rattle.siting_definitions.specs.Line.{line_text, text_of};
-ghost use Rattle.siting_definitions.specs.AnswerText.{number_line, optional_line, site_line, cost_line, word_field, root_line, mark_line, head_lines, answer_text};
+ghost use Rattle.siting_definitions.specs.AnswerText.{number_line, optional_line, site_line};
+ghost use Rattle.siting_definitions.specs.AnswerText.{cost_line, word_field, root_line, mark_line};
+ghost use Rattle.siting_definitions.specs.AnswerText.{head_lines, answer_text};
 ghost use Rattle.siting_definitions.specs.InstanceText.{version_field};
 ghost use Rattle.answer_model.specs.Head.{best_of};
 ghost use Rattle.discard_log.specs.Nodes.{mark_of};

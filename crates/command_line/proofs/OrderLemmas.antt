@@ -6,7 +6,7 @@ use Rattle.std.proofs.lemmas.List.Sums.{sum_by-cons}
 use Rattle.std.proofs.lemmas.List.Sorted.{sum_by-IsPermutation}
 use Rattle.std.proofs.lemmas.Slice.Eq.{bytes_eq-Decides}
 use Rattle.command_line.specs.Settings.{value_in, setting_of, setting, has_only, settings_of}
-use Rattle.command_line.specs.Words.{solve_of, check_of, make_of, trial_of, command_of}
+use Rattle.command_line.specs.Words.{solve_of, check_of, resume_of, polish_of, near_of, make_of, trial_of, command_of}
 
 -- ---- lists in another order
 -- the two lists have the same sums, whatever number their elements have
@@ -95,7 +95,23 @@ same_solve xs ys p = rw (same_names xs ys p, same_settings xs ys p) refl
 
 same_check : (xs ys : List (List ℕ)) → IsPermutation xs ys → check_of xs ≡ check_of ys
 unfolding check_of
-same_check xs ys p = rw (same_names xs ys p) refl
+same_check xs ys p = rw (same_names xs ys p, same_setting xs ys p (codes "workers=") 1 64) refl
+
+same_resume : (xs ys : List (List ℕ)) → IsPermutation xs ys → resume_of xs ≡ resume_of ys
+unfolding resume_of
+same_resume xs ys p =
+    let same = same_setting xs ys p in
+    rw (same_names xs ys p, same (codes "budget=") 0 1000000, same (codes "pool=") 1 1000000, same (codes "workers=") 1 64) refl
+
+same_polish : (xs ys : List (List ℕ)) → IsPermutation xs ys → polish_of xs ≡ polish_of ys
+unfolding polish_of
+same_polish xs ys p = rw (same_names xs ys p) refl
+
+same_near : (xs ys : List (List ℕ)) → IsPermutation xs ys → near_of xs ≡ near_of ys
+unfolding near_of
+same_near xs ys p =
+    let same = same_setting xs ys p in
+    rw (same_names xs ys p, same (codes "slack=") 0 (2 ^ 60), same (codes "depth=") 0 16, same (codes "limit=") 1 1000000) refl
 
 same_make : (xs ys : List (List ℕ)) → IsPermutation xs ys → make_of xs ≡ make_of ys
 unfolding make_of
@@ -112,4 +128,4 @@ same_trial xs ys p =
 -- the words after a name are the same command in another order
 pub same_command : (name : List ℕ) (xs ys : List (List ℕ)) → IsPermutation xs ys → command_of (name ∷ xs) ≡ command_of (name ∷ ys)
 unfolding command_of
-same_command name xs ys p = rw (same_solve xs ys p, same_check xs ys p, same_make xs ys p, same_trial xs ys p) refl
+same_command name xs ys p = rw (same_solve xs ys p, same_check xs ys p, same_resume xs ys p, same_polish xs ys p, same_near xs ys p, same_make xs ys p, same_trial xs ys p) refl

@@ -1,10 +1,12 @@
 -- The ranges of a command's numbers, and which command wants a team.
-use Rattle.std.specs.Prelude.{◌≡◌, ℕ, ◌^◌, ◌≤◌, nat_le, Bool, false, pos, ◌≤ℤ◌, ⊤, Option, Some}
+use Rattle.std.specs.Prelude.{◌≡◌, ℕ, ◌^◌, ◌≤◌, nat_le, Bool, false, ℤ, pos, ◌≤ℤ◌, ⊤}
+use Rattle.std.specs.Prelude.{Option, Some, IfSome}
 use Rattle.siting_definitions.specs.declared.GapRule.{GapRule}
 use Rattle.siting_definitions.specs.declared.GapRule.TheVariants.{Fixed, Ppm}
 use Rattle.command_line.specs.declared.command.Settings.{Settings}
 use Rattle.command_line.specs.declared.command.Command.{Command}
-use Rattle.command_line.specs.declared.command.Command.TheVariants.{Solve, Check, Make, Trial}
+use Rattle.command_line.specs.declared.command.Command.TheVariants.{Solve, Check, Resume}
+use Rattle.command_line.specs.declared.command.Command.TheVariants.{Polish, Near, Make, Trial}
 
 -- the ranges of the numbers of a rule for the gap
 abbrev pub IsGapRule : GapRule → Type 0
@@ -23,14 +25,31 @@ pub record IsMaking (seed points : ℕ) : Type 0 where
   pub seed_most : seed ≤ 2147483647
   pub points_range : (1 ≤ points) × (points ≤ 4096)
 
+-- the ranges of the numbers of a resumption
+pub record IsResuming (budget : ℕ) (pool : Option ℕ) (workers : ℕ) : Type 0 where
+  pub budget_most : budget ≤ 1000000
+  pub pool_range : IfSome pool (λ n. (1 ≤ n) × (n ≤ 1000000))
+  pub workers_range : (1 ≤ workers) × (workers ≤ 64)
+
+-- the ranges of the numbers of a near set
+pub record IsNearing (slack : ℤ) (depth limit : ℕ) : Type 0 where
+  pub slack_range : (pos 0 ≤ℤ slack) × (slack ≤ℤ pos (2 ^ 60))
+  pub depth_most : depth ≤ 16
+  pub limit_range : (1 ≤ limit) × (limit ≤ 1000000)
+
 -- the numbers of a command are in their ranges, and a trial has one worker
 abbrev pub IsCommand : Command → Type 0
 IsCommand (Solve s) = IsSettings s
-IsCommand Check = ⊤
+IsCommand (Check workers) = (1 ≤ workers) × (workers ≤ 64)
+IsCommand (Resume budget pool workers) = IsResuming budget pool workers
+IsCommand Polish = ⊤
+IsCommand (Near slack depth limit) = IsNearing slack depth limit
 IsCommand (Make seed points) = IsMaking seed points
 IsCommand (Trial seed points s) = IsMaking seed points × IsSettings s × (s.workers ≡ 1)
 
 -- whether the command wants a team of two workers or more
 abbrev pub has_team : Option Command → Bool
 has_team (Some (Solve s)) = nat_le 2 s.workers
+has_team (Some (Check workers)) = nat_le 2 workers
+has_team (Some (Resume budget pool workers)) = nat_le 2 workers
 has_team _ = false

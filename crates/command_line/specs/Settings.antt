@@ -70,6 +70,27 @@ pool_of words = number_or 100000 (setting (codes "pool=") 1 1000000 words)
 abbrev pub workers_of : List (List ℕ) → Option ℕ
 workers_of words = number_or 1 (setting (codes "workers=") 1 64 words)
 
+-- how many leases may be given, which the words have to say
+abbrev pub required_budget_of : List (List ℕ) → Option ℕ
+required_budget_of words = required_number (setting (codes "budget=") 0 1000000 words)
+
+-- how many squares may be open, or nothing where the words don't say
+abbrev pub given_pool_of : List (List ℕ) → Option (Option ℕ)
+given_pool_of words = setting (codes "pool=") 1 1000000 words
+
+-- how much more than the site a point of the near set may cost: 0 to 2^60, and 0 where the words
+-- don't say
+abbrev pub slack_of : List (List ℕ) → Option ℕ
+slack_of words = number_or 0 (setting (codes "slack=") 0 (2 ^ 60) words)
+
+-- how many levels below the root its squares lie: 0 to 16, and 8 where the words don't say
+abbrev pub depth_of : List (List ℕ) → Option ℕ
+depth_of words = number_or 8 (setting (codes "depth=") 0 16 words)
+
+-- how many squares it may have: 1 to 1,000,000, and 100,000 where the words don't say
+abbrev pub limit_of : List (List ℕ) → Option ℕ
+limit_of words = number_or 100000 (setting (codes "limit=") 1 1000000 words)
+
 -- the seed, which the words have to say
 abbrev pub seed_of : List (List ℕ) → Option ℕ
 seed_of words = required_number (setting (codes "seed=") 0 2147483647 words)

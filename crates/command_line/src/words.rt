@@ -33,6 +33,12 @@ pub fn parse_words(words: &Argv) -> Option<Command>
         parse_solve(words)
     } else if says(name, b"check") {
         parse_check(words)
+    } else if says(name, b"resume") {
+        parse_resume(words)
+    } else if says(name, b"polish") {
+        parse_polish(words)
+    } else if says(name, b"near") {
+        parse_near(words)
     } else if says(name, b"make") {
         parse_make(words)
     } else if says(name, b"trial") {
@@ -48,6 +54,7 @@ pub fn wants_team(words: &Argv) -> bool
 {
     match parse_words(words) {
         Some(Command::Solve(settings)) => settings.workers >= 2,
+        Some(Command::Check { workers } | Command::Resume { workers, .. }) => workers >= 2,
         _ => false,
     }
 }
@@ -75,17 +82,107 @@ fn parse_solve(words: &Argv) -> Option<Command>
     Some(Command::Solve(settings))
 }
 
-/// A check, which has no settings.
+/// A check, with its workers.
 #[tactic(auto, unfolding(crate::specs::Words::check_of))]
 fn parse_check(words: &Argv) -> Option<Command>
     requires { 0 < length words.now }
     ensures value { result ≡ said.check_of (drop 1 words.now) }
     ensures ranges { IfSome result IsCommand }
 {
+    if !has_only(words, &[b"workers=".as_slice()]) {
+        return None;
+    }
+    let workers = parse_number_or(words, b"workers=", 1, 64, 1)?;
+    Some(Command::Check { workers })
+}
+
+/// A resumption, with its budget, its pool if it is given, and its workers.
+#[tactic(auto, unfolding(crate::specs::Words::resume_of))]
+fn parse_resume(words: &Argv) -> Option<Command>
+    requires { 0 < length words.now }
+    ensures value { result ≡ said.resume_of (drop 1 words.now) }
+    ensures ranges { IfSome result IsCommand }
+{
+    if !has_only(
+        words,
+        &[
+            b"budget=".as_slice(),
+            b"pool=".as_slice(),
+            b"workers=".as_slice(),
+        ],
+    ) {
+        return None;
+    }
+    let budget = parse_required_number(words, b"budget=", 0, 1_000_000)?;
+    let pool = parse_given_pool(words)?;
+    let workers = parse_number_or(words, b"workers=", 1, 64, 1)?;
+    Some(Command::Resume {
+        budget,
+        pool,
+        workers,
+    })
+}
+
+/// How many squares may be open at a time, if the words say it.
+fn parse_given_pool(words: &Argv) -> Option<Option<u32>>
+    ensures value { result ≡ settings.given_pool_of (drop 1 words.now) }
+    ensures within { IfSome result (λ pool. IfSome pool (λ n. (1 ≤ n) × (n ≤ 1000000))) }
+{
+    match parse_setting(words, b"pool=", 1, 1_000_000)? {
+        None => Some(None),
+        Some(number) => Some(Some(number as u32)),
+    }
+}
+
+/// A better bound for an answer, which has no settings.
+#[tactic(auto, unfolding(crate::specs::Words::polish_of))]
+fn parse_polish(words: &Argv) -> Option<Command>
+    requires { 0 < length words.now }
+    ensures value { result ≡ said.polish_of (drop 1 words.now) }
+    ensures ranges { IfSome result IsCommand }
+{
     if has_only(words, &[]) {
-        Some(Command::Check)
+        Some(Command::Polish)
     } else {
         None
+    }
+}
+
+/// A near set, with its slack, its depth and its limit.
+#[tactic(auto, unfolding(crate::specs::Words::near_of))]
+fn parse_near(words: &Argv) -> Option<Command>
+    requires { 0 < length words.now }
+    ensures value { result ≡ said.near_of (drop 1 words.now) }
+    ensures ranges { IfSome result IsCommand }
+{
+    if !has_only(
+        words,
+        &[
+            b"slack=".as_slice(),
+            b"depth=".as_slice(),
+            b"limit=".as_slice(),
+        ],
+    ) {
+        return None;
+    }
+    let slack = parse_slack(words)?;
+    let depth = parse_number_or(words, b"depth=", 0, 16, 8)?;
+    let limit = parse_number_or(words, b"limit=", 1, 1_000_000, 100_000)?;
+    Some(Command::Near {
+        slack: slack as i64,
+        depth: depth as u8,
+        limit,
+    })
+}
+
+/// How much more than the site a point may cost, in cost units.
+fn parse_slack(words: &Argv) -> Option<u64>
+    ensures value { result ≡ settings.slack_of (drop 1 words.now) }
+    ensures within { IfSome result (λ n. n ≤ 2 ^ 60) }
+{
+    match parse_setting(words, b"slack=", 0, 1 << 60)? {
+        None => Some(0),
+        Some(number) => Some(number),
     }
 }
 

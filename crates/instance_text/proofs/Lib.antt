@@ -5,4 +5,5 @@ mod Built
 mod Written
 pub mod ReadLawful
 mod TextRows
+mod CutTexts
 pub mod InstanceLengths

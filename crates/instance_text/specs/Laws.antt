@@ -1,8 +1,9 @@
 -- Laws of the texts of instances.
-use Rattle.std.specs.Prelude.{◌≡◌, ◌↔◌, ℕ, ◌<◌, ◌≤◌, List, length, All, Ok}
+use Rattle.std.specs.Prelude.{◌≡◌, ◌↔◌, ℕ, ◌<◌, ◌≤◌, List, [], ◌∷◌, ◌++◌, length, All, Ok, Err}
 use Rattle.siting_definitions.specs.Instance.{Instance, IsInstance}
 use Rattle.siting_definitions.specs.InstanceText.{instance_lines, instance_text}
 use Rattle.siting_definitions.specs.Line.{line_text}
+use Rattle.instance_text.specs.declared.faults.InstanceFault.{InstanceFault}
 use Rattle.instance_text.specs.Reading.{reading}
 use Rattle.instance_text.specs.InstanceTexts.{IsInstanceText}
 
@@ -22,6 +23,18 @@ TextKeepsLimits = (bytes : List ℕ) (i : Instance) → reading bytes ≡ Ok i �
 -- a text is read as an instance exactly where its rows say that instance
 abbrev pub TextSaysItsRows : Type 0
 TextSaysItsRows = (bytes : List ℕ) (i : Instance) → (reading bytes ≡ Ok i) ↔ IsInstanceText bytes i
+
+-- a canonical text that lacks its last line feed alone is read as the same instance
+abbrev pub UnendedTextReadsBack : Type 0
+UnendedTextReadsBack =
+    (i : Instance) → IsInstance i → (front : List ℕ) → instance_text i ≡ front ++ 10 ∷ []
+    → reading front ≡ Ok i
+
+-- and one that lacks more has a fault
+abbrev pub CutTextIsRefused : Type 0
+CutTextIsRefused =
+    (i : Instance) → IsInstance i → (front rest : List ℕ) → instance_text i ≡ front ++ rest
+    → 2 ≤ length rest → (fault : InstanceFault) × (reading front ≡ Err fault)
 
 -- the canonical text of an instance is short: in bytes, with the line feeds
 abbrev pub CanonicalTextIsShort : Type 0

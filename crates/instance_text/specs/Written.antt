@@ -5,7 +5,8 @@ use Rattle.std.specs.Fmt.{signed_decimal}
 use Rattle.siting_definitions.specs.Point.{Place}
 use Rattle.siting_definitions.specs.Instance.{DemandPt, Instance}
 use Rattle.siting_definitions.specs.Line.{line_text}
-use Rattle.siting_definitions.specs.InstanceText.{version_field, kind_field, point_line, polygon_line}
+use Rattle.siting_definitions.specs.InstanceText.{version_field, kind_field, point_line}
+use Rattle.siting_definitions.specs.InstanceText.{polygon_line}
 
 -- the header and the kind
 abbrev pub front_text : Instance → List ℕ

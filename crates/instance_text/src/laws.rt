@@ -11,7 +11,8 @@ ghost use Rattle.instance_text.specs.declared.faults.TheConstants.{TWO_KINDS, NO
 ghost use Rattle.instance_text.specs.declared.faults.TheConstants.{NO_END, AFTER_END};
 ghost use Rattle.instance_text.specs.Laws.{TextReadsBack, TextsDiffer, TextKeepsLimits};
 ghost use Rattle.instance_text.specs.Laws.{TextSaysItsRows, CanonicalTextIsShort};
-ghost use Rattle.instance_text.specs.Laws.{CanonicalLinesAreShort};
+ghost use Rattle.instance_text.specs.Laws.{CanonicalLinesAreShort, UnendedTextReadsBack};
+ghost use Rattle.instance_text.specs.Laws.{CutTextIsRefused};
 
 /// The canonical text of an instance within the limits is an instance text of that instance, and so
 /// of no other.
@@ -34,6 +35,13 @@ pub fn text_keeps_limits()
 /// instance in any order, and the end.
 pub fn text_says_its_rows()
     ensures { TextSaysItsRows }
+{}
+
+/// A canonical text that is cut short: without its last line feed it is read as the same instance,
+/// and a front of it that lacks more has a fault.
+pub fn cut_texts_are_refused()
+    ensures line_feed { UnendedTextReadsBack }
+    ensures more { CutTextIsRefused }
 {}
 
 /// The canonical text of an instance within the limits has fewer than 310,000 bytes, and each of

@@ -18,6 +18,7 @@ from-bytes b i =
     (λ is. ap (λ (c : ℕ). c ∷ bytes_in i) (sym (eqb-true b 10 is)))
     (λ _. onto-bytes b i.lines i refl)
 
+-- a byte before an input doesn't change whether it goes on
 onto-goes_on : (b : ℕ) (lines : List (List ℕ)) (i : Input) → (onto_lines b lines i).goes_on ≡ i.goes_on
 onto-goes_on b [] i = refl
 onto-goes_on b (line ∷ lines) i = refl
@@ -27,6 +28,13 @@ from-goes_on b i =
     cond_both (eqb b 10) (record i { lines = [] ∷ i.lines }) (onto_lines b i.lines i) (λ (o : Input). o.goes_on ≡ i.goes_on)
     (λ _. refl)
     (λ _. onto-goes_on b i.lines i)
+
+-- an input within the limit ends
+pub goes_on-within : (limit : ℕ) (bytes : List ℕ) → length bytes ≤ limit → (input_of limit bytes).goes_on ≡ false
+unfolding input_of
+goes_on-within limit [] within = refl
+goes_on-within zero (b ∷ bs) within = absurd (omega arith)
+goes_on-within (suc limit) (b ∷ bs) within = from-goes_on b (input_of limit bs) ∙ goes_on-within limit bs (omega arith)
 
 -- the bytes of an input that was read to its end
 pub bytes-input_of : (limit : ℕ) (bytes : List ℕ) → (input_of limit bytes).goes_on ≡ false → bytes ≡ bytes_of (input_of limit bytes).lines ++ (input_of limit bytes).partial

@@ -5,7 +5,7 @@ use Rattle.std.specs.Result.{IsErrAnd}
 use Rattle.std.specs.List.{list_all}
 use Rattle.std.specs.Io.KnownBytes.{Consumes, Keeps}
 use Rattle.std.proofs.lemmas.Bool.{and_parts}
-use Rattle.std.proofs.lemmas.List.{length-take, length-append, take-append-drop}
+use Rattle.std.proofs.lemmas.List.{length-take, length-drop, length-append, take-append-drop}
 use Rattle.port_io.specs.Faults.{Rose, HasCause}
 use Rattle.port_io.specs.declared.ports.Failed.{Failed}
 use Rattle.port_io.proofs.SourceLemmas.{Consumes-then}
@@ -14,7 +14,7 @@ use Rattle.line_stream.specs.declared.lines.LineError.TheVariants.{Missing, Surp
 use Rattle.line_stream.specs.Feeds.{is_no_feed}
 use Rattle.line_stream.specs.Input.{Input, input_of, input_from, onto_lines, with_more}
 use Rattle.line_stream.specs.Coming.{Coming, next_line, input_end}
-use Rattle.line_stream.specs.Stream.{LinesState, Stream, IsCalm, coming_in, Settles, IsNeeded, HasEnded}
+use Rattle.line_stream.specs.Stream.{LinesState, Stream, IsCalm, taken, AreTaken, coming_in, Settles, LeavesOpen, IsLastPiece, IsNeeded, HasEnded}
 use Rattle.line_stream.specs.LineReading.{Blames, StopsAs, after_front, Filled, FrontRead, InLine, IsLine, IsStopped, PieceRead, RestRead, LineRead, surplus_of, IsEnd}
 
 -- ---- a front of a line
@@ -116,10 +116,15 @@ front_read limit n before after feed keeps clean rest most first within some few
       few = few;
       count = rw long (sym read);
       within = rw read (omega arith);
+      held = held feed rest read;
     }
   where
     long : length (take n before.ahead) ≡ n
     long = let e = length-take n before.ahead in omega arith
+
+    held : (feed : Bool) → drop n before.ahead ≡ cond feed (10 ∷ after.ahead) after.ahead → after.read ≡ before.read + (n + cond feed 1 0) → taken after ≡ taken before
+    held true rest read = omega (arith, ap length rest, length-drop n before.ahead, within, read)
+    held false rest read = omega (arith, ap length rest, length-drop n before.ahead, within, read)
 
     by_test : (more : Bool) (bytes : List ℕ) (feed : Bool) → drop n before.ahead ≡ cond feed (10 ∷ after.ahead) after.ahead → n + cond feed 1 0 ≤ limit - before.read
         → after.read ≡ before.read + (n + cond feed 1 0) → after.line ≡ before.line + cond feed 1 0
@@ -180,10 +185,33 @@ pub needed-kept : {T E : Type 0} (limit : ℕ) (wanted : Coming → Result T E) 
 needed-kept limit wanted error s got more none needed =
     subst (IsNeeded limit wanted error s) (sym (ap (λ m. got ++ m) none ∙ append-nil got)) needed
 
-pub needed-last : {T E : Type 0} (limit : ℕ) (wanted : Coming → Result T E) (error : E) (s : LinesState) (got front piece more : List ℕ) → more ≡ front ++ piece → length piece ≤ 4096
-    → wanted (coming_in true limit s (got ++ front)) ≡ Err error → IsNeeded limit wanted error s (got ++ more)
-needed-last limit wanted error s got front piece more parts few undecided =
-    inr (record { front = got ++ front; piece = piece; parts = ap (λ m. got ++ m) parts ∙ sym (append_assoc got front piece); few = few; undecided = undecided })
+-- what is open after these bytes, of something else that was wanted
+pub open_as : {T E U F : Type 0} (limit : ℕ) (wanted : Coming → Result T E) (open_ : E) (other : Coming → Result U F) (error : F)
+    → ((r : Coming) → wanted r ≡ Err open_ → other r ≡ Err error) → (s : LinesState) (got : List ℕ) → LeavesOpen limit wanted open_ s got → LeavesOpen limit other error s got
+open_as limit wanted open_ other error also s got h = record { undecided = also _ h.undecided; within = h.within }
+
+pub needed_as : {T E U F : Type 0} (limit : ℕ) (wanted : Coming → Result T E) (open_ : E) (other : Coming → Result U F) (error : F)
+    → ((r : Coming) → wanted r ≡ Err open_ → other r ≡ Err error) → (s : LinesState) (got : List ℕ) → IsNeeded limit wanted open_ s got → IsNeeded limit other error s got
+needed_as limit wanted open_ other error also s got (inl none) = inl none
+needed_as limit wanted open_ other error also s got (inr last) =
+    inr (record { front = last.front; piece = last.piece; parts = last.parts; few = last.few; before = open_as limit wanted open_ other error also s last.front last.before })
+
+-- what is open after more bytes, of something that was wanted before the first of them
+pub open_after : {T E U F : Type 0} (limit : ℕ) (wanted : Coming → Result U F) (error : F) (later : Coming → Result T E) (open_ : E) (a b : LinesState) (got more : List ℕ) → AreTaken a b got
+    → (later (coming_in true limit b more) ≡ Err open_ → wanted (coming_in true limit a (got ++ more)) ≡ Err error) → LeavesOpen limit later open_ b more → LeavesOpen limit wanted error a (got ++ more)
+open_after limit wanted error later open_ a b got more count also h =
+    record { undecided = also h.undecided; within = omega (arith, count, h.within, length-append got more) }
+
+pub needed-last : {T E U F : Type 0} (limit : ℕ) (wanted : Coming → Result U F) (error : F) (later : Coming → Result T E) (open_ : E) (a b : LinesState) (got more : List ℕ) → AreTaken a b got
+    → ((front : List ℕ) → later (coming_in true limit b front) ≡ Err open_ → wanted (coming_in true limit a (got ++ front)) ≡ Err error) → IsLastPiece limit later open_ b more → IsNeeded limit wanted error a (got ++ more)
+needed-last limit wanted error later open_ a b got more count also last =
+    inr (record {
+      front = got ++ last.front;
+      piece = last.piece;
+      parts = ap (λ m. got ++ m) last.parts ∙ sym (append_assoc got last.front last.piece);
+      few = last.few;
+      before = open_after limit wanted error later open_ a b got last.front count (also last.front) last.before;
+    })
 
 -- ---- a line that is read piece by piece
 module _ (limit : ℕ) where
@@ -193,7 +221,19 @@ module _ (limit : ℕ) where
     consumes = rw left (Consumes-none a.left);
     needed = inl refl;
     reads = λ more rest. sym (after_front-nil (next_line (coming_in more limit a.lines rest))) ∙ ap (λ (s : LinesState). after_front [] (next_line (coming_in more limit s rest))) (sym lines);
+    count = subst (λ (t : LinesState). AreTaken a.lines t []) (sym lines) (omega arith);
     calm = record { later = rw faults (omega arith); same = strict; quiet = λ _. faults };
+  }
+
+  -- of a line that begins nothing was read
+  pub in_line-none : (a : Stream) → InLine limit a a []
+  in_line-none a = record {
+    got = [];
+    consumes = Consumes-none a.left;
+    needed = inl refl;
+    reads = λ more rest. sym (after_front-nil (next_line (coming_in more limit a.lines rest)));
+    count = omega arith;
+    calm = calm-none a;
   }
 
   -- nothing of the line was read yet
@@ -204,7 +244,7 @@ module _ (limit : ℕ) where
   in_line-open : (a b : Stream) (x got : List ℕ) (h : InLine limit a b x) → IsNeeded limit next_line TooLong b.lines got → IsNeeded limit next_line TooLong a.lines (h.got ++ got)
   in_line-open a b x got h (inl none) = needed-kept limit next_line TooLong a.lines h.got got none h.needed
   in_line-open a b x got h (inr last) =
-      needed-last limit next_line TooLong a.lines h.got last.front last.piece got last.parts last.few (h.reads true last.front ∙ ap (after_front x) last.undecided)
+      needed-last limit next_line TooLong next_line TooLong a.lines b.lines h.got got h.count (λ front is. h.reads true front ∙ ap (after_front x) is) last
 
   -- two fronts of a line, one after the other
   pub in_line-then : (a b c : Stream) (x y : List ℕ) → InLine limit a b x → InLine limit b c y → InLine limit a c (x ++ y)
@@ -214,6 +254,7 @@ module _ (limit : ℕ) where
     needed = in_line-open a b x k.got h k.needed;
     reads = λ more rest. ap (λ l. next_line (coming_in more limit a.lines l)) (append_assoc h.got k.got rest)
         ∙ (h.reads more (k.got ++ rest) ∙ (ap (after_front x) (k.reads more rest) ∙ after_front-append x y (next_line (coming_in more limit c.lines rest))));
+    count = omega (arith, h.count, k.count, length-append h.got k.got);
     calm = calm-then a b c h.calm k.calm;
   }
 
@@ -225,6 +266,7 @@ module _ (limit : ℕ) where
     needed = in_line-open a b x k.got h k.needed;
     reads = λ more rest. ap (λ l. next_line (coming_in more limit a.lines l)) (append_assoc h.got k.got rest)
         ∙ (h.reads more (k.got ++ rest) ∙ ap (after_front x) (k.reads more rest));
+    count = omega (arith, h.count, k.count, length-append h.got k.got);
     calm = calm-then a b c h.calm k.calm;
   }
 
@@ -237,7 +279,8 @@ module _ (limit : ℕ) where
       (h.reads false got ∙ ap (after_front x) stops.0, ended-then a.left b.left c.left h.got h.consumes stops.1)
   in_line-stops a b c x got (Surplus line) h stops = in_line-settles a b x got (Surplus line) h stops
   in_line-stops a b c x got TooLong h stops = in_line-settles a b x got TooLong h stops
-  in_line-stops a b c x got SourceFailed h stops = h.reads true got ∙ ap (after_front x) stops
+  in_line-stops a b c x got SourceFailed h stops =
+      open_after limit next_line TooLong next_line TooLong a.lines b.lines h.got got h.count (λ is. h.reads true got ∙ ap (after_front x) is) stops
 
   -- a front of a line was read, and then no line
   pub in_line-fails : (a b c : Stream) (x : List ℕ) (error : LineError) → InLine limit a b x → IsStopped limit next_line b c error → IsStopped limit next_line a c error
@@ -251,9 +294,10 @@ module _ (limit : ℕ) where
 
   -- ---- what was read ahead
   -- some bytes were held already
-  pub filled_held : (a : Stream) → 0 < length a.lines.ahead → Filled a a (Ok true)
-  filled_held a some = record {
+  pub filled_held : (a : Stream) → a.lines.read ≤ limit → 0 < length a.lines.ahead → Filled limit a a (Ok true)
+  filled_held a within some = record {
     got = [];
+    within = within;
     consumes = Consumes-none a.left;
     lines = ap (λ l. record a.lines { ahead = l }) (sym (append-nil a.lines.ahead));
     few = inl refl;
@@ -275,25 +319,28 @@ module _ (limit : ℕ) where
   consumes_kept (Some a) (Some b) keeps = sym keeps
 
   -- bytes were read ahead, or the source ended or failed
-  pub filled_now : (a b : Stream) (now : List ℕ) (result : Result Bool Failed) → a.lines.ahead ≡ [] → b.lines ≡ record a.lines { ahead = now }
+  pub filled_now : (a b : Stream) (now : List ℕ) (result : Result Bool Failed) → a.lines.read ≤ limit → a.lines.ahead ≡ [] → b.lines ≡ record a.lines { ahead = now }
       → OnOk result (Consumes a.left b.left now) → IfOk result (λ some. some ≡ nat_lt 0 (length now)) → IfOk result (λ some. some ≡ false → IfSome a.left (λ left. left ≡ []))
-      → length now ≤ 4096 → OnErr result (Keeps a.left b.left) → OnErr result (now ≡ []) → HasCause a.faults b.faults result → b.is_strict ≡ a.is_strict → (IsTrue a.is_strict → OnOk result (b.faults ≡ a.faults)) → Filled a b result
-  filled_now a b now (Ok true) empty lines gave some end few keeps none cause same quiet = record {
+      → length now ≤ 4096 → OnErr result (Keeps a.left b.left) → OnErr result (now ≡ []) → HasCause a.faults b.faults result → b.is_strict ≡ a.is_strict → (IsTrue a.is_strict → OnOk result (b.faults ≡ a.faults)) → Filled limit a b result
+  filled_now a b now (Ok true) within empty lines gave some end few keeps none cause same quiet = record {
     got = now;
+    within = within;
     consumes = gave;
     lines = lines ∙ ap (λ l. record a.lines { ahead = l ++ now }) (sym empty);
     few = inr (empty, few);
     fills = (rw lines (let is : true ≡ nat_lt 0 (length now) = some in grind arith), record { later = cause.later; same = same; quiet = quiet });
   }
-  filled_now a b now (Ok false) empty lines gave some end few keeps none cause same quiet = record {
+  filled_now a b now (Ok false) within empty lines gave some end few keeps none cause same quiet = record {
     got = now;
+    within = within;
     consumes = gave;
     lines = lines ∙ ap (λ l. record a.lines { ahead = l ++ now }) (sym empty);
     few = inl (no_bytes now some);
     fills = (empty, no_bytes now some, ends a.left b.left now (no_bytes now some) gave (end refl), record { later = cause.later; same = same; quiet = quiet });
   }
-  filled_now a b now (Err failed) empty lines gave some end few keeps none cause same quiet = record {
+  filled_now a b now (Err failed) within empty lines gave some end few keeps none cause same quiet = record {
     got = [];
+    within = within;
     consumes = consumes_kept a.left b.left keeps;
     lines = lines ∙ ap (λ l. record a.lines { ahead = l }) (none ∙ sym (append-nil []) ∙ ap (λ l. l ++ []) (sym empty));
     few = inl refl;
@@ -301,7 +348,7 @@ module _ (limit : ℕ) where
   }
 
   -- what is still to come is the same, wherever it lies
-  coming_filled : (b c : Stream) (result : Result Bool Failed) (f : Filled b c result) (more : Bool) (rest : List ℕ) → coming_in more limit b.lines (f.got ++ rest) ≡ coming_in more limit c.lines rest
+  coming_filled : (b c : Stream) (result : Result Bool Failed) (f : Filled limit b c result) (more : Bool) (rest : List ℕ) → coming_in more limit b.lines (f.got ++ rest) ≡ coming_in more limit c.lines rest
   coming_filled b c result f more rest =
       ap (λ l. record { input = with_more more (input_of (limit - b.lines.read) l); line = b.lines.line }) (sym (append_assoc b.lines.ahead f.got rest))
       ∙ ap (λ (s : LinesState). coming_in more limit s rest) (sym f.lines)
@@ -317,33 +364,49 @@ module _ (limit : ℕ) where
   open_end true s bytes none is = rw (none, is) refl
   open_end false s bytes none is = rw (none, is) refl
 
-  filled_line : (b c : Stream) (result : Result Bool Failed) (f : Filled b c result) → IsNeeded limit next_line TooLong b.lines f.got
+  -- what is open there
+  taken_none : (s : LinesState) (bytes : List ℕ) → s.ahead ≡ [] → bytes ≡ [] → s.read ≤ limit → taken s + length bytes ≤ limit
+  taken_none s bytes none is within = omega (arith, ap length none, ap length is, within)
+
+  line_is_open : (s : LinesState) (bytes : List ℕ) → s.ahead ≡ [] → bytes ≡ [] → s.read ≤ limit → LeavesOpen limit next_line TooLong s bytes
+  line_is_open s bytes none is within = record { undecided = open_line true s bytes none is; within = taken_none s bytes none is within }
+
+  end_is_open : (s : LinesState) (bytes : List ℕ) → s.ahead ≡ [] → bytes ≡ [] → s.read ≤ limit → LeavesOpen limit input_end TooLong s bytes
+  end_is_open s bytes none is within = record { undecided = open_end true s bytes none is; within = taken_none s bytes none is within }
+
+  -- so many bytes more are held
+  filled_count : (b c : Stream) (result : Result Bool Failed) (f : Filled limit b c result) → AreTaken b.lines c.lines f.got
+  filled_count b c result f =
+      subst (λ (t : LinesState). AreTaken b.lines t f.got) (sym f.lines) (omega (arith, length-append b.lines.ahead f.got))
+
+  filled_line : (b c : Stream) (result : Result Bool Failed) (f : Filled limit b c result) → IsNeeded limit next_line TooLong b.lines f.got
   filled_line b c result f = by_few f.few
     where
       by_few : (f.got ≡ []) ⊎ ((b.lines.ahead ≡ []) × (length f.got ≤ 4096)) → IsNeeded limit next_line TooLong b.lines f.got
       by_few (inl none) = inl none
-      by_few (inr few) = inr (record { front = []; piece = f.got; parts = refl; few = few.1; undecided = open_line true b.lines [] few.0 refl })
+      by_few (inr few) = inr (record { front = []; piece = f.got; parts = refl; few = few.1; before = line_is_open b.lines [] few.0 refl f.within })
 
-  filled_end : (b c : Stream) (result : Result Bool Failed) (f : Filled b c result) → IsNeeded limit input_end TooLong b.lines f.got
+  filled_end : (b c : Stream) (result : Result Bool Failed) (f : Filled limit b c result) → IsNeeded limit input_end TooLong b.lines f.got
   filled_end b c result f = by_few f.few
     where
       by_few : (f.got ≡ []) ⊎ ((b.lines.ahead ≡ []) × (length f.got ≤ 4096)) → IsNeeded limit input_end TooLong b.lines f.got
       by_few (inl none) = inl none
-      by_few (inr few) = inr (record { front = []; piece = f.got; parts = refl; few = few.1; undecided = open_end true b.lines [] few.0 refl })
+      by_few (inr few) = inr (record { front = []; piece = f.got; parts = refl; few = few.1; before = end_is_open b.lines [] few.0 refl f.within })
 
   -- some bytes are held now
-  pub in_line-filled : (a b c : Stream) (x : List ℕ) → InLine limit a b x → Filled b c (Ok true) → InLine limit a c x
+  pub in_line-filled : (a b c : Stream) (x : List ℕ) → InLine limit a b x → Filled limit b c (Ok true) → InLine limit a c x
   in_line-filled a b c x h f = record {
     got = h.got ++ f.got;
     consumes = Consumes-then a.left b.left c.left h.got f.got h.consumes f.consumes;
     needed = in_line-open a b x f.got h (filled_line b c (Ok true) f);
     reads = λ more rest. ap (λ l. next_line (coming_in more limit a.lines l)) (append_assoc h.got f.got rest)
         ∙ (h.reads more (f.got ++ rest) ∙ ap (λ (r : Coming). after_front x (next_line r)) (coming_filled b c (Ok true) f more rest));
+    count = (let more = filled_count b c (Ok true) f in omega (arith, h.count, more, length-append h.got f.got));
     calm = calm-then a b c h.calm f.fills.1;
   }
 
   -- the input ends within the line
-  pub in_line-missing : (a b c : Stream) (x : List ℕ) (line : ℕ) → InLine limit a b x → Filled b c (Ok false) → line ≡ c.lines.line + 1 → IsStopped limit next_line a c (Missing line)
+  pub in_line-missing : (a b c : Stream) (x : List ℕ) (line : ℕ) → InLine limit a b x → Filled limit b c (Ok false) → line ≡ c.lines.line + 1 → IsStopped limit next_line a c (Missing line)
   in_line-missing a b c x line h f is =
       let same : line ≡ b.lines.line + 1 = is ∙ ap (λ (s : LinesState). s.line + 1) f.lines in
       in_line-fails a b c x (Missing line) h (record {
@@ -355,13 +418,13 @@ module _ (limit : ℕ) where
       })
 
   -- the source failed within the line
-  pub in_line-failed : (a b c : Stream) (x : List ℕ) (failed : Failed) → InLine limit a b x → Filled b c (Err failed) → IsStopped limit next_line a c SourceFailed
+  pub in_line-failed : (a b c : Stream) (x : List ℕ) (failed : Failed) → InLine limit a b x → Filled limit b c (Err failed) → IsStopped limit next_line a c SourceFailed
   in_line-failed a b c x failed h f =
       in_line-fails a b c x SourceFailed h (record {
         got = f.got;
         consumes = f.consumes;
         needed = filled_line b c (Err failed) f;
-        stops = open_line true b.lines f.got f.fills.0 f.fills.1;
+        stops = line_is_open b.lines f.got f.fills.0 f.fills.1 f.within;
         blames = (f.fills.2, f.fills.3);
       })
 
@@ -395,15 +458,15 @@ module _ (limit : ℕ) where
   pub in_line-front : (a b : Stream) (after : LinesState) → InLine limit a b b.lines.kept → FrontRead limit b.lines after false → InLine limit a (record b { lines = after }) after.kept
   in_line-front a b after h f =
       subst (InLine limit a (record b { lines = after })) (sym f.keeps)
-      (in_line-then a b (record b { lines = after }) b.lines.kept f.front h (record { got = []; consumes = Consumes-none b.left; needed = inl refl; reads = f.reads; calm = record { later = omega arith; same = refl; quiet = λ strict. refl } }))
+      (in_line-then a b (record b { lines = after }) b.lines.kept f.front h (record { got = []; consumes = Consumes-none b.left; needed = inl refl; reads = f.reads; count = omega (arith, f.held); calm = record { later = omega arith; same = refl; quiet = λ strict. refl } }))
 
   pub in_line-feed : (a b : Stream) (after : LinesState) → InLine limit a b b.lines.kept → FrontRead limit b.lines after true → IsLine limit a (record b { lines = after }) after.kept
   in_line-feed a b after h f =
       subst (IsLine limit a (record b { lines = after })) (sym f.keeps)
-      (in_line-ends a b (record b { lines = after }) b.lines.kept f.front h (record { got = []; consumes = Consumes-none b.left; needed = inl refl; reads = f.reads; calm = record { later = omega arith; same = refl; quiet = λ strict. refl } }))
+      (in_line-ends a b (record b { lines = after }) b.lines.kept f.front h (record { got = []; consumes = Consumes-none b.left; needed = inl refl; reads = f.reads; count = omega (arith, f.held); calm = record { later = omega arith; same = refl; quiet = λ strict. refl } }))
 
   -- what is kept stays where nothing but bytes ahead are read
-  pub in_line-held : (a b c : Stream) → InLine limit a b b.lines.kept → Filled b c (Ok true) → InLine limit a c c.lines.kept
+  pub in_line-held : (a b c : Stream) → InLine limit a b b.lines.kept → Filled limit b c (Ok true) → InLine limit a c c.lines.kept
   in_line-held a b c h f =
       let same : c.lines.kept ≡ b.lines.kept = ap (λ (s : LinesState). s.kept) f.lines in
       subst (InLine limit a c) (sym same) (in_line-filled a b c b.lines.kept h f)
@@ -415,7 +478,7 @@ module _ (limit : ℕ) where
   rest_fails a b c front error (Err e) h piece is = rw is (in_line-fails a b c front error h piece)
 
   line_forgets : (a c : Stream) (line : List ℕ) → IsLine limit a c line → IsLine limit a (record c { lines = record c.lines { kept = [] } }) line
-  line_forgets a c line h = record { got = h.got; consumes = h.consumes; needed = h.needed; reads = h.reads; calm = record { later = h.calm.later; same = h.calm.same; quiet = h.calm.quiet } }
+  line_forgets a c line h = record { got = h.got; consumes = h.consumes; needed = h.needed; reads = h.reads; count = h.count; calm = record { later = h.calm.later; same = h.calm.same; quiet = h.calm.quiet } }
 
   -- the rest of a line was read, and is forgotten
   pub rest_ends : (a b c : Stream) (now : LinesState) (front : List ℕ) → InLine limit a b front → PieceRead limit b c (Ok true) → now ≡ record c.lines { kept = [] }
@@ -432,7 +495,7 @@ module _ (limit : ℕ) where
   long_line a b c (Err error) piece long rest = in_line-fails a b c b.lines.kept error piece rest
 
   -- ---- the end of the input
-  pub end_read : (a b : Stream) → Filled a b (Ok false) → IsEnd limit a b
+  pub end_read : (a b : Stream) → Filled limit a b (Ok false) → IsEnd limit a b
   end_read a b f = record {
     ends = open_end false a.lines [] f.fills.0 refl;
     consumes = subst (Consumes a.left b.left) f.fills.1 f.consumes;
@@ -463,7 +526,7 @@ module _ (limit : ℕ) where
   surplus_blames a b false line calm = calm
 
   -- a byte comes after the end
-  pub end_surplus : (a b : Stream) (error : LineError) → Filled a b (Ok true) → error ≡ surplus_of limit b.lines → IsStopped limit input_end a b error
+  pub end_surplus : (a b : Stream) (error : LineError) → Filled limit a b (Ok true) → error ≡ surplus_of limit b.lines → IsStopped limit input_end a b error
   end_surplus a b error f is = rw is (record {
     got = f.got;
     consumes = f.consumes;
@@ -478,16 +541,11 @@ module _ (limit : ℕ) where
       by_ahead more rest (c ∷ ahead) some = end_in more (limit - b.lines.read) b.lines.line c (ahead ++ rest)
 
   -- the source failed where the input was to end
-  pub end_failed : (a b : Stream) (failed : Failed) → Filled a b (Err failed) → IsStopped limit input_end a b SourceFailed
+  pub end_failed : (a b : Stream) (failed : Failed) → Filled limit a b (Err failed) → IsStopped limit input_end a b SourceFailed
   end_failed a b failed f = record {
     got = f.got;
     consumes = f.consumes;
     needed = filled_end a b (Err failed) f;
-    stops = open_end true a.lines f.got f.fills.0 f.fills.1;
+    stops = end_is_open a.lines f.got f.fills.0 f.fills.1 f.within;
     blames = (f.fills.2, f.fills.3);
   }
-
--- a list of no length is empty
-pub no_length : (bytes : List ℕ) → length bytes ≡ 0 → bytes ≡ []
-no_length [] e = refl
-no_length (b ∷ bytes) e = let no : ⊥ = omega arith in absurd no

@@ -1,5 +1,6 @@
 -- The bytes of an input as lines, where no more than so many may be read.
-use Rattle.std.specs.Prelude.{ℕ, zero, suc, ◌==◌, Bool, true, false, ◌||◌, if◌then◌else◌, List, [], ◌∷◌, ◌++◌, flat_map}
+use Rattle.std.specs.Prelude.{ℕ, zero, suc, ◌==◌, Bool, true, false, ◌||◌, if◌then◌else◌, List, []}
+use Rattle.std.specs.Prelude.{◌∷◌, ◌++◌, flat_map}
 
 -- The lines, each without its line feed; the bytes after the last line feed; and whether the
 -- input goes on after the last byte that may be read.

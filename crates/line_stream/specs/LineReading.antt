@@ -1,12 +1,16 @@
 -- What the calls of a `Lines` read.
-use Rattle.std.specs.Prelude.{◌≡◌, ℕ, ◌+◌, ◌-◌, ◌<◌, ◌≤◌, ◌==◌, ◌⊎◌, Bool, true, false, if◌then◌else◌, List, [], ◌++◌, length, Result, Ok, Err, ⊤}
+use Rattle.std.specs.Prelude.{◌≡◌, ℕ, ◌+◌, ◌-◌, ◌<◌, ◌≤◌, ◌==◌, ◌⊎◌, Bool, true, false}
+use Rattle.std.specs.Prelude.{if◌then◌else◌, List, [], ◌++◌, length, Result, Ok, Err, ⊤}
 use Rattle.std.specs.Io.KnownBytes.{Consumes}
 use Rattle.port_io.specs.Faults.{Rose}
 use Rattle.port_io.specs.declared.ports.Failed.{Failed}
 use Rattle.line_stream.specs.declared.lines.LineError.{LineError}
-use Rattle.line_stream.specs.declared.lines.LineError.TheVariants.{Missing, Surplus, TooLong, Failed as SourceFailed}
+use Rattle.line_stream.specs.declared.lines.LineError.TheVariants.{Missing, Surplus, TooLong}
+use Rattle.line_stream.specs.declared.lines.LineError.TheVariants.{Failed as SourceFailed}
 use Rattle.line_stream.specs.Coming.{Coming, next_line, input_end}
-use Rattle.line_stream.specs.Stream.{LinesState, Stream, IsCalm, coming_in, Settles, IsNeeded, HasEnded}
+use Rattle.line_stream.specs.Stream.{LinesState, Stream, IsCalm, taken, AreTaken, coming_in}
+use Rattle.line_stream.specs.Stream.{Settles}
+use Rattle.line_stream.specs.Stream.{LeavesOpen, IsNeeded, HasEnded}
 
 -- a call answers that the source failed only where the count of faults rose in it, and that it
 -- didn't only where no call of the source failed
@@ -26,8 +30,7 @@ StopsAs limit wanted before after got (Missing line) =
 StopsAs limit wanted before after got (Surplus line) =
     Settles limit wanted before.lines got (Err (Surplus line))
 StopsAs limit wanted before after got TooLong = Settles limit wanted before.lines got (Err TooLong)
-StopsAs limit wanted before after got SourceFailed =
-    wanted (coming_in true limit before.lines got) ≡ Err TooLong
+StopsAs limit wanted before after got SourceFailed = LeavesOpen limit wanted TooLong before.lines got
 
 -- these bytes before the line that is read, where one is
 abbrev pub after_front : List ℕ → Result (List ℕ × Coming) LineError
@@ -44,8 +47,9 @@ FilledAs before after got (Err failed) =
     (before.lines.ahead ≡ []) × (got ≡ []) × (before.faults ≤ after.faults)
     × Rose before.faults after.faults
 
-pub record Filled (before after : Stream) (result : Result Bool Failed) : Type 0 where
+pub record Filled (limit : ℕ) (before after : Stream) (result : Result Bool Failed) : Type 0 where
   pub got : List ℕ
+  pub within : before.lines.read ≤ limit
   pub consumes : Consumes before.left after.left got
   pub lines : after.lines ≡ record before.lines { ahead = before.lines.ahead ++ got }
   pub few : (got ≡ []) ⊎ ((before.lines.ahead ≡ []) × (length got ≤ 4096))
@@ -63,6 +67,7 @@ pub record FrontRead (limit : ℕ) (before after : LinesState) (feed : Bool) : T
   pub few : length after.kept ≤ 4096
   pub count : before.read + (length front + (if feed then 1 else 0)) ≡ after.read
   pub within : after.read ≤ limit
+  pub held : taken after ≡ taken before
 
 -- these bytes are the front of the line that comes, and no more of it was read
 pub record InLine (limit : ℕ) (before after : Stream) (front : List ℕ) : Type 0 where
@@ -72,6 +77,7 @@ pub record InLine (limit : ℕ) (before after : Stream) (front : List ℕ) : Typ
   pub reads : (more : Bool) (rest : List ℕ)
       → next_line (coming_in more limit before.lines (got ++ rest))
       ≡ after_front front (next_line (coming_in more limit after.lines rest))
+  pub count : AreTaken before.lines after.lines got
   pub calm : IsCalm before after
 
 -- this line was read
@@ -82,6 +88,7 @@ pub record IsLine (limit : ℕ) (before after : Stream) (line : List ℕ) : Type
   pub reads : (more : Bool) (rest : List ℕ)
       → next_line (coming_in more limit before.lines (got ++ rest))
       ≡ Ok (line, coming_in more limit after.lines rest)
+  pub count : AreTaken before.lines after.lines got
   pub calm : IsCalm before after
 
 -- no line was read, or the input was to end

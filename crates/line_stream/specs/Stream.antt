@@ -1,5 +1,6 @@
 -- What contracts see of the lines of a source.
-use Rattle.std.specs.Prelude.{◌≡◌, ℕ, ◌-◌, ◌≤◌, ◌⊎◌, Bool, true, List, [], ◌++◌, length, Option, Some, IfSome, IsTrue, Result, Err}
+use Rattle.std.specs.Prelude.{◌≡◌, ℕ, ◌+◌, ◌-◌, ◌≤◌, ◌⊎◌, Bool, true, List, [], ◌++◌, length}
+use Rattle.std.specs.Prelude.{Option, Some, IfSome, IsTrue, Result, Err}
 use Rattle.line_stream.specs.Input.{input_of, with_more}
 use Rattle.line_stream.specs.Coming.{Coming}
 
@@ -39,20 +40,35 @@ coming_in more limit lines bytes =
       line = lines.line;
     }
 
+-- how many bytes a `Lines` has of its source: those that were read, and those read ahead
+abbrev pub taken : LinesState → ℕ
+taken lines = lines.read + length lines.ahead
+
+-- these bytes of the source were taken between two states of a `Lines`
+abbrev pub AreTaken : LinesState → LinesState → List ℕ → Type 0
+AreTaken before after got = taken after ≡ taken before + length got
+
 -- What is answered where these bytes were read is settled: it is that whatever comes after them.
 abbrev pub Settles : {T : Type 0} → ℕ → (Coming → T) → LinesState → List ℕ → T → Type 0
 Settles limit wanted lines got answer =
     (more : Bool) (rest : List ℕ) → wanted (coming_in more limit lines (got ++ rest)) ≡ answer
 
+-- What was wanted is open after these bytes, which are within the limit. That it is open is what an
+-- input answers that goes on after them.
+pub record LeavesOpen {T E : Type 0} (limit : ℕ) (wanted : Coming → Result T E) (open_ : E)
+    (lines : LinesState) (got : List ℕ) : Type 0 where
+  pub undecided : wanted (coming_in true limit lines got) ≡ Err open_
+  pub within : taken lines + length got ≤ limit
+
 -- Bytes were read in pieces of at most 4,096, and those before the last piece left open what was
--- wanted. That it is open is what an input answers that goes on after them.
+-- wanted.
 pub record IsLastPiece {T E : Type 0} (limit : ℕ) (wanted : Coming → Result T E) (open_ : E)
     (lines : LinesState) (got : List ℕ) : Type 0 where
   pub front : List ℕ
   pub piece : List ℕ
   pub parts : got ≡ front ++ piece
   pub few : length piece ≤ 4096
-  pub undecided : wanted (coming_in true limit lines front) ≡ Err open_
+  pub before : LeavesOpen limit wanted open_ lines front
 
 -- no more bytes were read than were needed
 abbrev pub IsNeeded : {T E : Type 0} → ℕ → (Coming → Result T E) → E → LinesState → List ℕ → Type 0

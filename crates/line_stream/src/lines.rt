@@ -2,7 +2,8 @@
 
 ghost use Rattle.std.specs.Prelude.{◌≡◌, ◌<◌, ◌≤◌, ◌-◌, [], false, length, nat_lt, IsOk, IfOk};
 ghost use Rattle.line_stream.specs.Stream.{stream};
-ghost use Rattle.line_stream.specs.LineReading.{Filled, FrontRead, PieceRead, LineRead, RestRead, EndRead, surplus_of};
+ghost use Rattle.line_stream.specs.LineReading.{Filled, FrontRead, PieceRead, LineRead, RestRead};
+ghost use Rattle.line_stream.specs.LineReading.{EndRead, surplus_of};
 
 use crate::ahead::Ahead;
 use crate::so_far::ReadSoFar;
@@ -55,6 +56,8 @@ impl<const LIMIT: u32> Model for Lines<LIMIT> {
       ahead = l.ahead;
       kept = l.kept;
     } };
+
+    ghost invariant = { λ l. l.so_far.read ≤ LIMIT };
 }
 
 impl<const LIMIT: u32> Lines<LIMIT> {
@@ -86,7 +89,7 @@ impl<const LIMIT: u32> Lines<LIMIT> {
 
     /// Reads on where nothing is held, and says whether a byte is still to come.
     fn has_more<S: Source>(&mut self, source: &mut S) -> Result<bool, Failed>
-        ensures { Filled (stream S.left S.faults S.is_strict self.old source.old)
+        ensures { Filled LIMIT (stream S.left S.faults S.is_strict self.old source.old)
             (stream S.left S.faults S.is_strict self.new source.new) result }
     {
         if !self.ahead.is_empty() {

@@ -1,8 +1,7 @@
 -- No point of a closed square costs more than its ceiling: the radii of the farthest points are high for it, and each exceeds
 -- that of the fine bound by at most the diagonal.
-use Rattle.std.proofs.Common.{◌≡◌, ℕ, ◌+◌, ◌*◌, ◌/◌, ◌^◌, ◌≤◌, ◌<◌, ℤ, pos, negsuc, ◌+ℤ◌, ◌*ℤ◌, ◌≤ℤ◌, ◌<ℤ◌, true, List, [], ◌∷◌, map, fold, Option, None, Some, ap, subst, ◌∙◌, refl, ⊎_elim, ◌-◌, arith}
+use Rattle.std.proofs.Common.{◌≡◌, ℕ, ◌+◌, ◌*◌, ◌/◌, ◌^◌, ◌≤◌, ◌<◌, ℤ, pos, negsuc, ◌+ℤ◌, ◌*ℤ◌, ◌≤ℤ◌, ◌<ℤ◌, true, List, [], ◌∷◌, map, fold, Option, None, Some, ap, subst, ◌∙◌, refl, ◌-◌, arith}
 use Rattle.std.proofs.Math.Nat.{mul-le-mul_left, mul-le-mul_right}
-use Rattle.std.proofs.lemmas.Bool.{cases_lt}
 use Rattle.std.proofs.lemmas.Int.{clamps}
 use Rattle.std.proofs.lemmas.List.Elements.{All-head, All-tail}
 use Rattle.std.specs.Prelude.{All, unsigned_abs}
@@ -17,7 +16,7 @@ use Rattle.siting_definitions.specs.Instance.{DemandPt, Instance, IsDemandPt, Is
 use Rattle.siting_definitions.specs.Cost.{distance2, IsHighAt, terms, total, total_of}
 use Rattle.siting_definitions.specs.Square.{Square, holds_closed}
 use Rattle.siting_definitions.specs.Bounds.{near_on, far_on, near2, far2, capped, by_sign, fine_radius, fine_of}
-use Rattle.siting_definitions.proofs.Integers.{square_le, square_cancel_le, mul_le_ℤ, mul_assoc_ℤ}
+use Rattle.siting_definitions.proofs.Integers.{square_le, square_cancel_le, mul_le_ℤ, mul_assoc_ℤ, twice-product}
 use Rattle.siting_definitions.proofs.Totals.{RiseBy, total-drift}
 use Rattle.siting_definitions.proofs.CostLemmas.{high_radii_cost}
 use Rattle.root_enclosure.proofs.RootLemmas.{floor_root-is, ceil_root-le}
@@ -27,17 +26,6 @@ use Rattle.objectives.proofs.CoarseLemmas.{term-moved, added_weights}
 use Rattle.near_set.specs.Ceiling.{heaviest, steepness_by, steepness_of, diagonal_of, rise_of, ceiling_of, NoneCostsMore}
 
 -- ---- from the nearest to the farthest point of a square
--- twice a product is at most the sum of the squares
-twice_product : (a b : ℕ) → 2 * (a * b) ≤ a * a + b * b
-twice_product a b =
-    ⊎_elim (λ less. ordered a b (omega (arith, less))) (λ more. let e = ordered b a more in omega (arith, e)) (cases_lt a b)
-  where
-    by_difference : (a k : ℕ) → 2 * (a * (a + k)) ≤ a * a + (a + k) * (a + k)
-    by_difference a k = omega arith
-
-    ordered : (a b : ℕ) → a ≤ b → 2 * (a * b) ≤ a * a + b * b
-    ordered a b h = let e : a + (b - a) ≡ b = omega arith in subst (λ n. 2 * (a * n) ≤ a * a + n * n) e (by_difference a (b - a))
-
 -- the ways x and y are longer than a and b by at most m, and e is at least m times the root of 2
 longer_way : (a b m e g x y : ℕ) → x ≤ a + m → y ≤ b + m → a * a + b * b ≤ g * g → 17 * m ≤ 12 * e → x * x + y * y ≤ (g + e) * (g + e)
 longer_way a b m e g x y across upwards near wide =
@@ -45,7 +33,7 @@ longer_way a b m e g x y across upwards near wide =
     let ys : y * y ≤ (b + m) * (b + m) = square_le y (b + m) upwards in
     let wides : 17 * m * (17 * m) ≤ 12 * e * (12 * e) = square_le (17 * m) (12 * e) wide in
     let double : 2 * (m * m) ≤ e * e = omega (arith, wides) in
-    let both : (a + b) * (a + b) ≤ 2 * (g * g) = omega (arith, near, twice_product a b) in
+    let both : (a + b) * (a + b) ≤ 2 * (g * g) = omega (arith, near, twice-product a b) in
     let first : m * m * ((a + b) * (a + b)) ≤ m * m * (2 * (g * g)) = mul-le-mul_left (m * m) both in
     let second : 2 * (m * m) * (g * g) ≤ e * e * (g * g) = mul-le-mul_right (g * g) double in
     let cross : m * (a + b) ≤ e * g = square_cancel_le (m * (a + b)) (e * g) (omega (arith, first, second)) in

@@ -1,2 +1,2 @@
 mod CeilingLemmas
-mod NearLemmas
+pub mod NearLemmas

@@ -1,5 +1,6 @@
 -- A number that no point of a square costs more than, from the fine bound of the square alone.
-use Rattle.std.specs.Prelude.{◌≡◌, ℕ, ◌+◌, ◌*◌, ◌/◌, ◌^◌, max, ℤ, pos, ◌+ℤ◌, unsigned_abs, true, List, [], ◌∷◌}
+use Rattle.std.specs.Prelude.{◌≡◌, ℕ, ◌+◌, ◌*◌, ◌/◌, ◌^◌, max, ℤ, pos, ◌+ℤ◌, unsigned_abs, true}
+use Rattle.std.specs.Prelude.{List, [], ◌∷◌}
 use Rattle.siting_definitions.specs.declared.Kind.{Kind}
 use Rattle.siting_definitions.specs.declared.Kind.TheVariants.{Sum, Max}
 use Rattle.siting_definitions.specs.Point.{Point}

@@ -1,5 +1,6 @@
 -- The near set of a cost: the squares of one size in which a permitted point may cost at most this.
-use Rattle.std.specs.Prelude.{ℕ, zero, suc, ℤ, int_le, Bool, not, ◌&&◌, List, [], ◌∷◌, map, filter, codes, Contains}
+use Rattle.std.specs.Prelude.{ℕ, zero, suc, ℤ, int_le, Bool, not, ◌&&◌, List, [], ◌∷◌, map, filter}
+use Rattle.std.specs.Prelude.{codes, Contains}
 use Rattle.std.specs.Fmt.{signed_decimal}
 use Rattle.siting_definitions.specs.Instance.{Instance}
 use Rattle.siting_definitions.specs.Square.{Square}

@@ -5,6 +5,7 @@ use Rattle.std.proofs.lemmas.Bool.{cond_both, eqb-true, true≢false, false≢tr
 use Rattle.std.proofs.lemmas.Int.{ints}
 use Rattle.std.proofs.lemmas.List.{length-map}
 use Rattle.std.proofs.lemmas.List.Elements.{All-nil, All-cons, All-head, All-tail, All-weaker}
+use Rattle.std.proofs.lemmas.List.Filters.{length-filter_both}
 use Rattle.std.proofs.lemmas.List.Sums.{length-filter}
 use Rattle.std.proofs.lemmas.List.Sorted.{IsPermutation-refl, All-permutation}
 use Rattle.siting_definitions.specs.declared.Mark.{Mark}
@@ -18,6 +19,7 @@ use Rattle.siting_definitions.specs.Tree.{Tree, Leaf, Fits, preorder}
 use Rattle.siting_definitions.specs.Marks as marks
 use Rattle.siting_definitions.specs.Marks.{IsAtMost, leaf_mark, reaches, MarksFit, is_split, is_open}
 use Rattle.siting_definitions.proofs.Integers.{le_refl_ℤ}
+use Rattle.siting_definitions.proofs.MarkLemmas.{at_most-refl}
 use Rattle.objectives.proofs.CoarseLemmas.{coarse_of-le-fine_of}
 use Rattle.dyadic_square.proofs.Bag.{total, once, SameTotals, total-length, total-permutation, count_by-total, permutation_from_totals}
 use Rattle.dyadic_square.proofs.Trees.{same_tree_square, tree_square_decides}
@@ -33,11 +35,13 @@ use Rattle.pool_core.proofs.TreeKept.{total-map, total_entries, total_nodes, tot
 use Rattle.pool_core.proofs.CountsKept.{length-permutation, count_by-cons}
 use Rattle.pool_core.proofs.SoundSteps.{Costs, sound-parts}
 
--- ---- the start as the least upper cost
-at_most-self : (o : Option ℤ) → MatchOption o ⊤ (IsAtMost o)
-at_most-self None = tt
-at_most-self (Some z) = le_refl_ℤ z
+-- ---- nodes that are left open
+-- nodes are left open or closed
+pub closed_length : (ns : List Node) → length (closed_nodes ns) + left_count ns ≡ length ns
+closed_length ns =
+    omega (arith, length-filter_both is_left_open (λ (n : Node). not (is_left_open n)) (λ n. refl) ns, length-filter is_left_open ns)
 
+-- ---- the start as the least upper cost
 start_offered : (i : Instance) (o : Option (Pt × ℤ)) → MatchOption o ⊤ (λ b. IsOffer i b.0 b.1) → MatchOption (cost_in o) ⊤ (λ c. (z : Pt) × IsOffer i z c)
 start_offered i None h = tt
 start_offered i (Some b) h = (b.0, h)
@@ -73,7 +77,7 @@ first_pool j lawful =
         waiting = All-cons (EntryFits i) root [] fits (All-nil (EntryFits i));
         leased = All-nil (EntryFits i);
         nodes = All-nil (NodeFits i gap (start_cost j));
-        start = at_most-self (start_cost j);
+        start = at_most-refl (start_cost j);
         least_is = start_offered i j.start lawful.job.start;
       };
     }
@@ -259,7 +263,7 @@ begun_costs j ns leases s lawful r b =
       waiting = All-weaker (λ e. P (left_of e)) (EntryFits i) (left-fits i j.gap u) s.waiting (All-unmap P left_of s.waiting left);
       leased = subst (All (EntryFits i)) (sym b.leased) (All-nil (EntryFits i));
       nodes = subst (All Q) (sym b.nodes) closed;
-      start = at_most-self u;
+      start = at_most-refl u;
       least_is = start_offered i j.start lawful.job.start;
     }
 

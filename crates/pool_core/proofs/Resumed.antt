@@ -1,11 +1,9 @@
 -- A pool that begins from the nodes of a tree: its state, and what a pool keeps.
-use Rattle.std.proofs.Common.{◌≡◌, ℕ, suc, ◌+◌, ◌-◌, ◌*◌, true, not, List, [], ◌∷◌, map, filter, length, count_by, vec_capacity, take, None, refl, sym, ap, ◌∙◌, subst, arith}
+use Rattle.std.proofs.Common.{◌≡◌, ℕ, suc, ◌+◌, ◌-◌, ◌*◌, true, List, [], ◌∷◌, map, filter, length, count_by, vec_capacity, take, None, refl, sym, ap, ◌∙◌, subst, arith}
 use Rattle.std.specs.List.{All}
 use Rattle.std.specs.List.Sorted.{IsPermutation}
 use Rattle.std.proofs.Math.Seq.{take-length}
 use Rattle.std.proofs.lemmas.List.{length-map}
-use Rattle.std.proofs.lemmas.List.Filters.{length-filter_both}
-use Rattle.std.proofs.lemmas.List.Sums.{length-filter}
 use Rattle.siting_definitions.specs.declared.Mark.{Mark}
 use Rattle.siting_definitions.specs.declared.Mark.TheVariants.{Split, Shut, Bounded, Floor, Left}
 use Rattle.siting_definitions.specs.Marks.{is_split}
@@ -21,15 +19,10 @@ use Rattle.pool_core.specs.Job.{Job, IsJob, job_root}
 use Rattle.pool_core.specs.State.{raised_count, split_count}
 use Rattle.pool_core.specs.Begun.{IsBegunFrom, IsResumable, closed_nodes, is_left_open, left_count, left_of}
 use Rattle.pool_core.specs.Pool.{PoolFits, state_of}
-use Rattle.pool_core.proofs.BegunLemmas.{waiting_count}
+use Rattle.pool_core.proofs.BegunLemmas.{waiting_count, closed_length}
 use Rattle.pool_core.proofs.CountsKept.{count_by-cons}
 
 -- ---- counts of nodes
--- nodes are left open or closed
-pub closed_length : (ns : List Node) → length (closed_nodes ns) + left_count ns ≡ length ns
-closed_length ns =
-    omega (arith, length-filter_both is_left_open (λ (n : Node). not (is_left_open n)) (λ n. refl) ns, length-filter is_left_open ns)
-
 abbrev node_at : Square → Mark → Node
 node_at s m = record { square = s; mark = m }
 

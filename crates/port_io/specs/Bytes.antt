@@ -1,7 +1,12 @@
 -- What reads and writes do to the bytes that a source has left and a sink has taken, where they are
 -- told.
-use Rattle.std.specs.Prelude.{◌≡◌, ◌↔◌, ℕ, ◌≤◌, List, [], ◌++◌, length, take, Option, None, Some, IfSome, Result, MatchResult, nat_le, if◌then◌else◌}
+use Rattle.std.specs.Prelude.{◌≡◌, ◌↔◌, ℕ, ◌≤◌, List, [], ◌++◌, length, take, Option, None, Some}
+use Rattle.std.specs.Prelude.{IfSome, Result, MatchResult, nat_le, if◌then◌else◌}
 use Rattle.std.specs.Io.KnownBytes.{Consumes, Keeps}
+
+-- how many bytes are read at once or wait to be written, at most
+abbrev pub piece_size : ℕ
+piece_size = 4096
 
 -- `read(buf)` gave the first n bytes left at `Ok(n)`, none exactly where nothing was left, and left
 -- all at `Err`; a source that tells goes on telling

@@ -1,9 +1,9 @@
 -- What contracts see of an `Out`, and the one contract of all calls that write to it.
-use Rattle.std.specs.Prelude.{◌≡◌, ℕ, ◌+◌, ◌<◌, Bool, false, List, [], ◌++◌, length, Option, Result, OnOk, OnErr, IsTrue, is_err}
+use Rattle.std.specs.Prelude.{◌≡◌, ℕ, ◌+◌, ◌<◌, Bool, false, List, [], ◌++◌, length, Option, Result}
+use Rattle.std.specs.Prelude.{OnOk, OnErr, IsTrue, is_err}
 use Rattle.std.specs.Fmt.{signed_decimal}
 use Rattle.port_io.specs.Faults.{HasCause}
-use Rattle.port_io.specs.Bytes.{Took, TookFront}
-use Rattle.port_io.specs.declared.buffer.TheConstants.{BUFFER_SIZE}
+use Rattle.port_io.specs.Bytes.{piece_size, Took, TookFront}
 use Rattle.port_io.specs.declared.buffered.Out.{Out}
 use Rattle.port_io.specs.declared.buffered.Piece.{Piece}
 use Rattle.port_io.specs.declared.buffered.Piece.TheVariants.{Text, Number}
@@ -91,7 +91,7 @@ pub record Put {T E : Type 0} (before after : Stage) (bytes : List ℕ) (result 
   pub room : after.sink.room ≡ before.sink.room
   pub cause : HasCause before.sink.faults after.sink.faults result
   pub heard : IsHeard before.sink after.sink result
-  pub lazy : length before.waiting + length bytes < BUFFER_SIZE → Waits before after bytes result
+  pub lazy : length before.waiting + length bytes < piece_size → Waits before after bytes result
 
 -- The one contract of the calls on an `Out` over a sink with these members: these bytes were put,
 -- and it still writes to the same sink.

@@ -1,5 +1,6 @@
 -- To take no bytes changes nothing, for a sink without a limit and for a `SureSink`.
-use Rattle.std.specs.Prelude.{◌≡◌, ℕ, List, [], length, Option, None, Some, Bool, true, false, nat_le, if◌then◌else◌, refl}
+use Rattle.std.specs.Prelude.{◌≡◌, ℕ, List, [], length, Option, None, Some, Bool, true, false}
+use Rattle.std.specs.Prelude.{nat_le, if◌then◌else◌, refl}
 use Rattle.std.proofs.Common.{sym, ap, ◌∙◌}
 use Rattle.std.proofs.lemmas.List.{append-nil}
 use Rattle.port_io.specs.Bytes.{told, Took}

@@ -1,6 +1,6 @@
 -- Reading an input to its end.
 use Rattle.std.specs.Prelude.{ℕ, ◌+◌, ◌<◌, ◌≤◌, Result, Ok, Err, ⊤}
-use Rattle.port_io.specs.declared.whole.TheConstants.{PIECE}
+use Rattle.port_io.specs.Bytes.{piece_size}
 use Rattle.port_io.specs.declared.whole.ReadAll.{ReadAll}
 use Rattle.port_io.specs.declared.whole.ReadAll.TheVariants.{TooLong, ReadFault, NoMemory}
 
@@ -9,7 +9,7 @@ use Rattle.port_io.specs.declared.whole.ReadAll.TheVariants.{TooLong, ReadFault,
 -- that.
 abbrev pub StopsWithin : {T : Type 0} → ℕ → ℕ → Result T ReadAll → Type 0
 StopsWithin limit read (Ok bytes) = read ≤ limit
-StopsWithin limit read (Err TooLong) = (limit < read) × (read ≤ limit + PIECE)
+StopsWithin limit read (Err TooLong) = (limit < read) × (read ≤ limit + piece_size)
 StopsWithin limit read (Err ReadFault) = read ≤ limit
 StopsWithin limit read (Err NoMemory) = read ≤ limit
 

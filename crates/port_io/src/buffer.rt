@@ -1,6 +1,7 @@
 //! A buffer of fixed size.
 
-ghost use Rattle.std.specs.Prelude.{◌≡◌, ℕ, ◌-◌, ◌+◌, ◌≤◌, ◌↔◌, IsTrue, List, [], ◌++◌, length, take, min, OnOk, OnErr, IfSome};
+ghost use Rattle.std.specs.Prelude.{◌≡◌, ℕ, ◌-◌, ◌+◌, ◌≤◌, ◌↔◌, IsTrue, List, [], ◌++◌, length};
+ghost use Rattle.std.specs.Prelude.{take, min, OnOk, OnErr, IfSome};
 ghost use Rattle.std.specs.Io.KnownBytes.{Consumes, Keeps};
 ghost use Rattle.port_io.specs.Faults.{HasCause};
 

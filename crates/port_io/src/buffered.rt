@@ -3,7 +3,8 @@
 ghost use Rattle.std.specs.Prelude.{◌≡◌, ◌<◌, [], length, OnOk, is_err};
 ghost use Rattle.std.specs.Fmt.{signed_decimal};
 ghost use Rattle.std.specs.List.{flat_map};
-ghost use Rattle.port_io.specs.Output.{PutOn, Wrote, IsOpen, has_failed, sink_of, sink_view, stage, fresh, piece_text};
+ghost use Rattle.port_io.specs.Output.{PutOn, Wrote, IsOpen, has_failed, sink_of, sink_view, stage};
+ghost use Rattle.port_io.specs.Output.{fresh, piece_text};
 
 use crate::buffer::Buffer;
 use crate::ports::Sink;

@@ -20,5 +20,5 @@ pub use buffer::{BUFFER_SIZE, Buffer};
 pub use buffered::{Out, Piece, WriteFault};
 pub use memory::{MemSink, MemSource, NoMemory};
 pub use ports::{Failed, Sink, Source};
-pub use sure::{SureSink, SureSource};
+pub use sure::{SliceSource, SureSink, SureSource};
 pub use whole::{ReadAll, read_up_to};

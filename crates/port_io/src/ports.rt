@@ -1,6 +1,7 @@
 //! The two traits, and the error of their calls.
 
-ghost use Rattle.std.specs.Prelude.{◌≡◌, ℕ, ◌<◌, ◌≤◌, Bool, List, [], Option, length, IfOk, OnOk, IsTrue};
+ghost use Rattle.std.specs.Prelude.{◌≡◌, ℕ, ◌<◌, ◌≤◌, Bool, List, [], Option, length, IfOk, OnOk};
+ghost use Rattle.std.specs.Prelude.{IsTrue};
 ghost use Rattle.port_io.specs.Faults.{HasCause};
 ghost use Rattle.port_io.specs.Bytes.{Reads, Took, Writes};
 

@@ -1,11 +1,13 @@
-//! A source and a sink in memory that never fail.
+//! Sources and a sink in memory that never fail.
 
-ghost use Rattle.std.specs.Prelude.{◌≡◌, ℕ, ◌+◌, ◌≤◌, Option, None, Some, List, [], length, MatchOption, vec_len, vec_capacity, true, false, IfOk, if◌then◌else◌};
+ghost use Rattle.std.specs.Prelude.{◌≡◌, ℕ, ◌+◌, ◌≤◌, Option, None, Some, List, [], length};
+ghost use Rattle.std.specs.Prelude.{MatchOption, vec_len, vec_capacity, true, false, min, take};
+ghost use Rattle.std.specs.Prelude.{drop, IfOk, if◌then◌else◌};
 ghost use Rattle.port_io.specs.Bytes.{told};
 ghost use Rattle.port_io.specs.MemoryPorts.{SureSinkState, sure_taken};
 ghost use Rattle.port_io.specs.SinkLaws.{sure-nothing};
 
-use crate::memory::{Held, NoMemory};
+use crate::memory::{Held, NoMemory, copy_front};
 use crate::ports::{Failed, Sink, Source};
 use std::alloc::Global;
 use std::marker::Model;
@@ -44,6 +46,58 @@ impl Source for SureSource {
     fn read(&mut self, buf: &mut [u8]) -> Result<usize, Failed> {
         let most = buf.len();
         Ok(self.held.give(buf, most))
+    }
+}
+
+/// A source over bytes in memory that another owns. It tells its bytes, never fails, and its count
+/// of faults is always 0.
+#[derive(Drop)]
+pub struct SliceSource<'a> {
+    bytes: &'a [u8],
+    at: usize,
+}
+
+impl<'a> Model for SliceSource<'a> {
+    ghost use Rattle.std.specs.Prelude.{ℕ, ◌≤◌, List, length, drop};
+
+    ghost Value = { List ℕ };
+
+    ghost view = { λ s. drop s.at s.bytes.now };
+
+    ghost invariant = { λ s. s.at ≤ length s.bytes.now };
+}
+
+impl<'a> SliceSource<'a> {
+    /// The source of these bytes.
+    pub fn new(bytes: &'a [u8]) -> SliceSource<'a>
+        ensures { result ≡ bytes.now }
+    {
+        SliceSource { bytes, at: 0 }
+    }
+
+    /// Gives the first bytes into the front of `buf`, and says how many.
+    fn give(&mut self, buf: &mut [u8]) -> usize
+        ensures count { result ≡ min (length buf.old) (length self.old) }
+        ensures front { take result buf.new ≡ take result self.old }
+        ensures rest { self.new ≡ drop result self.old }
+        ensures bound { result ≤ length buf.new }
+    {
+        let most = buf.len();
+        let count = copy_front(buf, &self.bytes[self.at..], most);
+        self.at += count;
+        count
+    }
+}
+
+impl<'a> Source for SliceSource<'a> {
+    ghost left = { λ s. Some s };
+
+    ghost faults = { λ _. 0 };
+
+    ghost is_strict = { true };
+
+    fn read(&mut self, buf: &mut [u8]) -> Result<usize, Failed> {
+        Ok(self.give(buf))
     }
 }
 

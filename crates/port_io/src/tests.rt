@@ -95,6 +95,9 @@ fn a_whole_input_is_read(rt: HostRuntime) -> Result<(), Fail> {
     let mut source = hand_over(SureSource::new(Vec::from_slice(rt.alloc(), text)?));
     let read = read_up_to(rt.alloc(), &mut source, 30)?;
     assert_eq!(rt; read.as_slice(), text.as_slice());
+    let mut source = hand_over(SliceSource::new(text.as_slice()));
+    let read = read_up_to(rt.alloc(), &mut source, 30)?;
+    assert_eq!(rt; read.as_slice(), text.as_slice());
     Ok(())
 }
 

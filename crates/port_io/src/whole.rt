@@ -1,6 +1,7 @@
 //! Reading an input to its end.
 
-ghost use Rattle.std.specs.Prelude.{◌≡◌, ◌-◌, ◌<◌, ◌≤◌, [], Some, length, vec_len, IfOk, OnOk, IfSome, IsErr, IsErrOf, IsTrue};
+ghost use Rattle.std.specs.Prelude.{◌≡◌, ◌-◌, ◌<◌, ◌≤◌, [], Some, length, vec_len, IfOk, OnOk};
+ghost use Rattle.std.specs.Prelude.{IfSome, IsErr, IsErrOf, IsTrue};
 ghost use Rattle.port_io.specs.Faults.{Rose};
 ghost use Rattle.port_io.specs.Bytes.{HasRest};
 ghost use Rattle.port_io.specs.Whole.{StopsWithin, UnlessReadFault};
@@ -10,7 +11,7 @@ use std::alloc::Global;
 use thiserror::Error;
 
 /// How many bytes one read asks for at most.
-pub(crate) const PIECE: usize = 4096;
+const PIECE: usize = 4096;
 
 /// Why an input was not read to its end.
 #[derive(Debug, Drop, Error)]

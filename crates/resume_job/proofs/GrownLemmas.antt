@@ -12,8 +12,7 @@ use Rattle.siting_definitions.specs.Bounds.{fine_of}
 use Rattle.siting_definitions.specs.Excluded.{is_excluded}
 use Rattle.siting_definitions.specs.Tree.{Tree, Leaf, Branch, Fits, TreeSquare, preorder}
 use Rattle.siting_definitions.specs.Marks.{IsAtMost, leaf_mark, SplitFits, MarkFits, MarksFit, lesser, bound_of, least_of}
-use Rattle.siting_definitions.proofs.Integers.{le_refl_ℤ, le_trans_ℤ}
-use Rattle.siting_definitions.proofs.MarkLemmas.{shut_leaf, open_bound, split_bound, lesser-assoc}
+use Rattle.siting_definitions.proofs.MarkLemmas.{shut_leaf, open_bound, split_bound, lesser-assoc, lesser-none, at_most-refl, at_most-trans}
 use Rattle.dyadic_square.specs.Order.{rank_of}
 use Rattle.dyadic_square.proofs.Bag.{total, once, total-append, Rising}
 use Rattle.dyadic_square.proofs.Order.{ranks-rise, aligned-refl}
@@ -121,16 +120,6 @@ tree_least i (Branch a b c d) s =
 abbrev pub IsNoHigher : Option ℤ → Option ℤ → Type 0
 IsNoHigher a b = MatchOption b ⊤ (IsAtMost a)
 
-no_higher_refl : (a : Option ℤ) → IsNoHigher a a
-no_higher_refl None = tt
-no_higher_refl (Some n) = le_refl_ℤ n
-
-pub no_higher_trans : (a b c : Option ℤ) → IsNoHigher a b → IsNoHigher b c → IsNoHigher a c
-no_higher_trans a b None h k = tt
-no_higher_trans a None (Some n) h k = absurd k
-no_higher_trans None (Some m) (Some n) h k = absurd h
-no_higher_trans (Some l) (Some m) (Some n) h k = le_trans_ℤ l m n h k
-
 no_higher_both : (a b c : Option ℤ) → IsNoHigher a b → IsNoHigher a c → IsNoHigher a (lesser b c)
 no_higher_both a None c h k = k
 no_higher_both a (Some m) None h k = h
@@ -160,14 +149,14 @@ quarter_higher i s k above = by_tests (cases_Bool (is_excluded i s)) (cases_Bool
 
 -- of a tree of a square the least bound is no lower than the square's
 tree_higher : (i : Instance) (u : Tree) (s : Square) → Fits u s.level → IsNoHigher (leaf_least i s) (tree_least i u s)
-tree_higher i Leaf s fits = no_higher_refl (leaf_least i s)
+tree_higher i Leaf s fits = at_most-refl (leaf_least i s)
 tree_higher i (Branch a b c d) s fits =
     no_higher_both (leaf_least i s) _ _ (part a 0 fits.1 (tree_higher i a (quarter_of s 0) fits.1))
     (no_higher_both (leaf_least i s) _ _ (part b 1 fits.2 (tree_higher i b (quarter_of s 1) fits.2))
     (no_higher_both (leaf_least i s) _ _ (part c 2 fits.3 (tree_higher i c (quarter_of s 2) fits.3)) (part d 3 fits.4 (tree_higher i d (quarter_of s 3) fits.4))))
   where
     part : (t : Tree) (k : ℕ) → Fits t (quarter_of s k).level → IsNoHigher (leaf_least i (quarter_of s k)) (tree_least i t (quarter_of s k)) → IsNoHigher (leaf_least i s) (tree_least i t (quarter_of s k))
-    part t k fits_t h = no_higher_trans (leaf_least i s) (leaf_least i (quarter_of s k)) (tree_least i t (quarter_of s k)) (quarter_higher i s k fits.0) h
+    part t k fits_t h = at_most-trans (leaf_least i s) (leaf_least i (quarter_of s k)) (tree_least i t (quarter_of s k)) (quarter_higher i s k fits.0) h
 
 four_higher : (a b c d a' b' c' d' : Option ℤ) → IsNoHigher a a' → IsNoHigher b b' → IsNoHigher c c' → IsNoHigher d d' → IsNoHigher (lesser a (lesser b (lesser c d))) (lesser a' (lesser b' (lesser c' d')))
 four_higher a b c d a' b' c' d' ha hb hc hd =
@@ -217,13 +206,9 @@ list_least-append i [] ys = refl
 list_least-append i (x ∷ xs) ys =
     ap (lesser (square_least i x)) (list_least-append i xs ys) ∙ sym (lesser-assoc (square_least i x) (list_least i xs) (list_least i ys))
 
-least_alone : (a : Option ℤ) → lesser a None ≡ a
-least_alone None = refl
-least_alone (Some n) = refl
-
 preorder_least : (i : Instance) (t : Tree) (s : Square) → list_least i (preorder t s) ≡ tree_least i t s
 unfolding list_least square_least
-preorder_least i Leaf s = least_alone (leaf_least i s)
+preorder_least i Leaf s = lesser-none (leaf_least i s)
 preorder_least i (Branch a b c d) s =
     let pa = preorder a (quarter_of s 0) in
     let pb = preorder b (quarter_of s 1) in

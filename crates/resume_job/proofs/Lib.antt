@@ -1,8 +1,7 @@
-mod LimitLemmas
 mod TextLemmas
 mod TallyLemmas
-mod ReopenLemmas
+pub mod ReopenLemmas
 mod GrownLemmas
 mod MatchLemmas
 mod TurnLemmas
-mod ResumeLemmas
+pub mod ResumeLemmas

@@ -13,17 +13,14 @@ use Rattle.siting_definitions.specs.declared.Mark.TheVariants.{Split, Shut, Boun
 use Rattle.siting_definitions.specs.declared.Word.{Word}
 use Rattle.siting_definitions.specs.declared.Word.TheVariants.{Solved, PoolFull, Budget, Floor, Empty}
 use Rattle.siting_definitions.specs.Point.{Pt}
-use Rattle.siting_definitions.specs.Square.{Square, IsSquare}
+use Rattle.siting_definitions.specs.Square.{Square}
 use Rattle.siting_definitions.specs.Sites.{root_of}
 use Rattle.siting_definitions.specs.Tree.{Tree, TreeSquare, preorder}
 use Rattle.siting_definitions.specs.Marks.{IsAtMost, AreMarks, Tally, tally_of, least_of, is_split, is_open, is_leaf}
 use Rattle.siting_definitions.specs.Answer.{Best, Head, Answer, IsValid, upper_cost, is_stopped}
 use Rattle.siting_definitions.proofs.Integers.{le_refl_ℤ}
-use Rattle.siting_definitions.specs.Instance.{Instance, IsInstance}
-use Rattle.siting_definitions.specs.Excluded.{box_of}
-use Rattle.siting_definitions.specs.Sites.{vertices}
-use Rattle.site_model.proofs.Vertices.{some_vertices, places_of, IsBoxWithin-bounds}
-use Rattle.site_model.proofs.Rooted.{root_is, IsSquare-over}
+use Rattle.siting_definitions.proofs.MarkLemmas.{leaf-not_split}
+use Rattle.site_model.proofs.Rooted.{IsSquare-root}
 use Rattle.dyadic_square.specs.Walk.{Walks, coming_after}
 use Rattle.dyadic_square.proofs.Bag.{total, once, total-append, total-length, total-permutation, count_by-total}
 use Rattle.dyadic_square.proofs.Trees.{same_tree_square, same_square, split_at}
@@ -40,7 +37,7 @@ use Rattle.pool_core.specs.Job.{Job, cost_in, start_cost}
 use Rattle.pool_core.specs.Seats.{IsKeptBy, StopsWithin}
 use Rattle.pool_core.specs.Sound.{StopFits}
 use Rattle.pool_core.specs.State.{State, entry_square, squares_of, split_count, unsplit_count, raised_count}
-use Rattle.pool_core.proofs.BegunLemmas.{total-halves}
+use Rattle.pool_core.proofs.BegunLemmas.{total-halves, closed_length}
 use Rattle.pool_core.proofs.CountsKept.{length-permutation}
 use Rattle.search_answer.specs.Ending.{Finishes, answer_of, ending_word, offer_of, open_for, split_nodes}
 use Rattle.resume_job.specs.Loading.{AreOfValid}
@@ -76,13 +73,6 @@ split_closed Shut e = absurd (false≢true e)
 split_closed (Bounded b) e = absurd (false≢true e)
 split_closed (FloorMark b) e = absurd (false≢true e)
 split_closed (Left b) e = absurd (false≢true e)
-
-leaf_is : (m : Mark) → is_leaf m ≡ not (is_split m)
-leaf_is (Split v) = refl
-leaf_is Shut = refl
-leaf_is (Bounded b) = refl
-leaf_is (FloorMark b) = refl
-leaf_is (Left b) = refl
 
 -- ---- totals
 total-map : {X Y : Type 0} (f : Y → ℕ) (g : X → Y) (xs : List X) → total f (map g xs) ≡ total (λ x. f (g x)) xs
@@ -157,11 +147,6 @@ splits_stay ns s ms w q =
     open_differs n open_ = differs (same_square q n.square) (is_split n.mark) (open_unsplit n.mark open_)
 
 -- ---- the sizes
-closed_and_left : (ns : List Node) → length (closed_nodes ns) + left_count ns ≡ length ns
-closed_and_left ns =
-    let halves = total-halves (λ (n : Node). 1) is_left_open ns in
-    omega (arith, halves, total-length (filter is_left_open ns), total-length (closed_nodes ns), total-length ns, length-filter is_left_open ns)
-
 all_size : (ns : List Node) (s : State) (ms : List Node) → IsFollowed ns s ms → length s.nodes + length s.waiting ≡ length ms
 all_size ns s ms w =
     let all = length-permutation (squares_of s) (map tree_square ms) w.squares in
@@ -218,12 +203,12 @@ left_parts ns ms =
 
 -- ---- the leases
 few_leases : (ns : List Node) (s : State) (ms : List Node) → IsFollowed ns s ms → StandOnce ms → s.leases ≤ split_count ns + left_count ns + 2 * length (new_among ns ms)
-few_leases ns s ms w alone = omega (arith, w.work, w.kept, closed_and_left ns, all_size ns s ms w, new_size ns ms alone)
+few_leases ns s ms w alone = omega (arith, w.work, w.kept, closed_length ns, all_size ns s ms w, new_size ns ms alone)
 
 shown_by : (ns : List Node) (s : State) (ms : List Node) → IsFollowed ns s ms → StandOnce ns → StandOnce ms → count_by (λ (m : Node). is_open m.mark) ms ≤ length s.waiting
     → s.leases ≤ split_count ns + count_by (λ (n : Node). is_open n.mark && not (is_open_among ms n.square)) ns + 2 * count_by (λ (m : Node). not (is_open m.mark)) (new_among ns ms) + count_by (λ (m : Node). is_open m.mark) (new_among ns ms) + s.kept
 shown_by ns s ms w alone_before alone few =
-    omega (arith, w.work, closed_and_left ns, all_size ns s ms w, new_size ns ms alone, new_parts ns ms, open_parts ns ms, left_parts ns ms, stayed_most ns ms alone_before, few)
+    omega (arith, w.work, closed_length ns, all_size ns s ms w, new_size ns ms alone, new_parts ns ms, open_parts ns ms, left_parts ns ms, stayed_most ns ms alone_before, few)
 
 -- ---- the leaves
 unsplit_parts : (xs ys zs : List Node) → zs ≡ xs ++ ys → unsplit_count zs ≡ unsplit_count xs + unsplit_count ys
@@ -243,7 +228,7 @@ leaves_at_end ns s ms w =
   where
     each : (ks : List Node) → total (λ (n : Node). once (is_leaf n.mark)) ks ≡ total (λ (n : Node). once (not (is_split n.mark))) ks
     each [] = refl
-    each (k ∷ ks) = omega (arith, ap once (leaf_is k.mark), each ks)
+    each (k ∷ ks) = omega (arith, ap once (leaf-not_split k.mark), each ks)
 
     each_entry : (es : List Entry) → total (λ (x : TreeSquare). once (not x.is_split)) (map entry_square es) ≡ length es
     each_entry [] = refl
@@ -308,14 +293,6 @@ work_fits Floor a b workers h k = tt
 work_fits Empty a b workers h k = tt
 
 -- ---- both answers
--- the root is a square within the limits
-root_within : (i : Instance) → IsInstance i → IsSquare (root_of i)
-root_within i is =
-    let vs = vertices i.permitted in
-    let some = is.few_permitted in
-    let box = IsBoxWithin-bounds vs (some_vertices i.permitted (omega arith) is.permitted) (places_of i.permitted is.permitted) in
-    subst IsSquare (root_is (box_of vs) i.permitted i refl refl) (IsSquare-over (box_of vs) box)
-
 -- the nodes of both answers, as trees of the root
 pub record AreBoth (a b : Answer) (ns ms : List Node) : Type 0 where
   pub root_small : (root_of a.head.instance).level ≤ 37
@@ -336,7 +313,7 @@ both_trees h ns budget pool s best after ms of r =
     let walks : Walks (root ∷ []) (map tree_square ms) = subst (Walks (root ∷ [])) (sym order.1) (walk-preorder order.0 root order.2.0) in
     let same_root : root_of after.instance ≡ root = ap root_of r.finishes.instance in
     record {
-      root_small = (root_within h.instance of.valid.ranges.instance).level;
+      root_small = (IsSquare-root h.instance of.valid.ranges.instance).level;
       before = sym of.nodes;
       after = ap (λ (q : Square). nodes_in_order (q ∷ []) (map mark_of ms)) same_root ∙ walked_nodes (root ∷ []) ms walks;
       tree = nodes.0;

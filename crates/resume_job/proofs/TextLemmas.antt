@@ -37,9 +37,9 @@ use Rattle.cert_checker.specs.Checking.{checking}
 use Rattle.cert_checker.specs.Walking.{CanStep, squares_after}
 use Rattle.cert_checker.specs.Steps.{RejectsAs}
 use Rattle.cert_checker.proofs.ValidLemmas.{accepted-valid}
+use Rattle.cert_checker.proofs.LimitLemmas.{checking-not_long}
 use Rattle.resume_job.specs.Loading.{AreOfValid}
 use Rattle.resume_job.specs.Steps.{IsNext, IsTextOf, RejectsText}
-use Rattle.resume_job.proofs.LimitLemmas.{checking-not_long}
 
 -- ---- the check
 -- a count that stands still didn't rise

@@ -1,31 +1,15 @@
 -- Answers that go on from one another, one after the other.
-use Rattle.std.proofs.Common.{◌≡◌, ℕ, zero, suc, ◌+◌, ◌<◌, ℤ, Bool, true, false, cond, List, [], ◌∷◌, filter, Option, None, Some, refl, sym, ap, ◌∙◌, subst, ◌⊎◌, inl, inr, length, arith}
-use Rattle.std.specs.Prelude.{All, Contains, MatchOption, ⊤}
+use Rattle.std.proofs.Common.{◌≡◌, ℕ, zero, suc, ◌+◌, ◌<◌, Bool, true, false, cond, List, [], ◌∷◌, filter, refl, sym, ap, ◌∙◌, subst, ◌⊎◌, inl, inr, length, arith}
+use Rattle.std.specs.Prelude.{All, Contains, ⊤}
 use Rattle.std.proofs.lemmas.Bool.{cases_Bool, cond-true, cond-false}
 use Rattle.std.proofs.lemmas.List.Elements.{All-contains, All-contains_itself}
-use Rattle.siting_definitions.specs.Marks.{IsAtMost, is_split}
+use Rattle.siting_definitions.specs.Marks.{is_split}
 use Rattle.siting_definitions.specs.Answer.{Best, Answer, IsValid, upper_cost}
-use Rattle.siting_definitions.proofs.Integers.{le_refl_ℤ, le_trans_ℤ}
+use Rattle.siting_definitions.proofs.MarkLemmas.{at_most-refl, at_most-trans}
 use Rattle.discard_log.specs.declared.node.Node.{Node}
 use Rattle.answer_model.specs.Nodes.{nodes_of}
 use Rattle.pool_core.proofs.BegunLemmas.{All-passed}
 use Rattle.resume_job.specs.Resumed.{AreResumed, GoesOn, last_of}
-use Rattle.resume_job.proofs.GrownLemmas.{IsNoHigher, no_higher_trans}
-
--- no cost before, or one after that is at most it
-cost_refl : (u : Option ℤ) → MatchOption u ⊤ (IsAtMost u)
-cost_refl None = tt
-cost_refl (Some n) = le_refl_ℤ n
-
-cost_trans : (a b c : Option ℤ) → MatchOption a ⊤ (IsAtMost b) → MatchOption b ⊤ (IsAtMost c) → MatchOption a ⊤ (IsAtMost c)
-cost_trans None b c h k = tt
-cost_trans (Some l) None c h k = absurd h
-cost_trans (Some l) (Some m) None h k = absurd k
-cost_trans (Some l) (Some m) (Some n) h k = le_trans_ℤ n m l k h
-
-bound_refl : (o : Option ℤ) → IsNoHigher o o
-bound_refl None = tt
-bound_refl (Some n) = le_refl_ℤ n
 
 -- ---- nodes that are kept
 -- the nodes that pass a test are among the nodes
@@ -56,8 +40,8 @@ goes_on_refl a valid =
       valid = valid;
       instance = refl;
       gap = refl;
-      cost = cost_refl (upper_cost a.head.best);
-      bound = bound_refl a.head.bound;
+      cost = at_most-refl (upper_cost a.head.best);
+      bound = at_most-refl a.head.bound;
       splits = passed_there (λ (n : Node). is_split n.mark) (nodes_of a);
     }
 
@@ -67,8 +51,8 @@ goes_on_trans a b c h k =
       valid = k.valid;
       instance = k.instance ∙ h.instance;
       gap = k.gap ∙ h.gap;
-      cost = cost_trans (upper_cost a.head.best) (upper_cost b.head.best) (upper_cost c.head.best) h.cost k.cost;
-      bound = no_higher_trans a.head.bound b.head.bound c.head.bound h.bound k.bound;
+      cost = at_most-trans (upper_cost c.head.best) (upper_cost b.head.best) (upper_cost a.head.best) k.cost h.cost;
+      bound = at_most-trans a.head.bound b.head.bound c.head.bound h.bound k.bound;
       splits = kept_on (λ (n : Node). is_split n.mark) (nodes_of a) (nodes_of b) (nodes_of c) h.splits k.splits;
     }
 

@@ -1,7 +1,9 @@
 -- Loading a valid answer: the parts that it is taken apart into, and what each answer tells.
-use Rattle.std.specs.Prelude.{◌≡◌, ℕ, ◌<◌, ◌≤◌, List, [], length, Option, Some, Result, Ok, Err, ⊤}
+use Rattle.std.specs.Prelude.{◌≡◌, ℕ, ◌+◌, ◌<◌, ◌≤◌, List, [], length, Option, Some, Result, Ok, Err, ⊤}
 use Rattle.port_io.specs.declared.whole.ReadAll.{ReadAll}
-use Rattle.port_io.specs.declared.whole.ReadAll.TheVariants.{TooLong as ReadTooLong, ReadFault as ReadFailed, NoMemory as ReadNoMemory}
+use Rattle.port_io.specs.declared.whole.ReadAll.TheVariants.{TooLong as ReadTooLong}
+use Rattle.port_io.specs.declared.whole.ReadAll.TheVariants.{ReadFault as ReadFailed}
+use Rattle.port_io.specs.declared.whole.ReadAll.TheVariants.{NoMemory as ReadNoMemory}
 use Rattle.siting_definitions.specs.Answer.{Head, IsValid}
 use Rattle.siting_definitions.specs.AnswerText.{answer_text}
 use Rattle.discard_log.specs.declared.node.Node.{Node}
@@ -10,7 +12,8 @@ use Rattle.search_answer.specs.Ending.{answer_of}
 use Rattle.cert_checker.specs.declared.faults.CheckError.TheVariants.{Fault}
 use Rattle.cert_checker.specs.Checking.{checking}
 use Rattle.resume_job.specs.declared.loading.LoadError.{LoadError}
-use Rattle.resume_job.specs.declared.loading.LoadError.TheVariants.{TooLong, ReadFault, Check, NoMemory}
+use Rattle.resume_job.specs.declared.loading.LoadError.TheVariants.{TooLong, ReadFault, Check}
+use Rattle.resume_job.specs.declared.loading.LoadError.TheVariants.{NoMemory}
 
 -- how many bytes may be loaded
 abbrev pub load_limit : ℕ
@@ -50,6 +53,15 @@ IsOfSome ReadFault = ⊤
 IsOfSome (Check fault) =
     (bytes : List ℕ) × (length bytes ≤ load_limit) × (checking bytes ≡ Err (Fault fault))
 IsOfSome NoMemory = ⊤
+
+-- How many bytes were read where this is answered: at most as many as may be, but where more came,
+-- and then at most a piece more.
+abbrev pub LoadStopsWithin : {T : Type 0} → ℕ → Result T LoadError → Type 0
+LoadStopsWithin read (Ok loaded) = read ≤ load_limit
+LoadStopsWithin read (Err TooLong) = (load_limit < read) × (read ≤ load_limit + 4096)
+LoadStopsWithin read (Err ReadFault) = read ≤ load_limit
+LoadStopsWithin read (Err (Check fault)) = read ≤ load_limit
+LoadStopsWithin read (Err NoMemory) = read ≤ load_limit
 
 -- what holds where something else than `ReadFault` is answered
 abbrev pub UnlessReadFault : {T : Type 0} → Result T LoadError → Type 0 → Type 0

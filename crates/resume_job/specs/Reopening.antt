@@ -9,7 +9,8 @@ use Rattle.pool_core.specs.State.{State, split_count}
 use Rattle.pool_core.specs.Sound.{IsFinished}
 use Rattle.search_answer.specs.Ending.{Finishes, offer_of}
 use Rattle.resume_job.specs.declared.reopening.ReopenError.{ReopenError}
-use Rattle.resume_job.specs.declared.reopening.ReopenError.TheVariants.{SmallBudget, SmallPool, NoMemory}
+use Rattle.resume_job.specs.declared.reopening.ReopenError.TheVariants.{SmallBudget, SmallPool}
+use Rattle.resume_job.specs.declared.reopening.ReopenError.TheVariants.{NoMemory}
 
 -- the job with the answer's instance and gap, which starts from its site with the upper cost
 abbrev pub job_from : Head → ℕ → ℕ → Job

@@ -1,9 +1,11 @@
 -- Answers that go on from others.
-use Rattle.std.specs.Prelude.{◌≡◌, ℕ, ◌+◌, ◌*◌, ◌≤◌, ◌==◌, Bool, not, ◌&&◌, List, [], ◌∷◌, filter, length, count_by, All, Contains, MatchOption, ⊤}
+use Rattle.std.specs.Prelude.{◌≡◌, ℕ, ◌+◌, ◌*◌, ◌≤◌, ◌==◌, Bool, not, ◌&&◌, List, [], ◌∷◌, filter}
+use Rattle.std.specs.Prelude.{length, count_by, All, Contains, MatchOption, ⊤}
 use Rattle.std.specs.List.{list_any}
 use Rattle.std.specs.Ordering.{int_eq}
 use Rattle.siting_definitions.specs.declared.Word.{Word}
-use Rattle.siting_definitions.specs.declared.Word.TheVariants.{Solved, PoolFull, Budget, Floor, Empty}
+use Rattle.siting_definitions.specs.declared.Word.TheVariants.{Solved, PoolFull, Budget, Floor}
+use Rattle.siting_definitions.specs.declared.Word.TheVariants.{Empty}
 use Rattle.siting_definitions.specs.Square.{Square}
 use Rattle.siting_definitions.specs.Marks.{IsAtMost, is_split, is_open, is_leaf}
 use Rattle.siting_definitions.specs.Answer.{Answer, IsValid, upper_cost}

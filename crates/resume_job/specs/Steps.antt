@@ -11,10 +11,14 @@ use Rattle.certificate.specs.declared.reader.Item.TheVariants.{Node}
 use Rattle.certificate.specs.Forms.{item_form}
 use Rattle.certificate.specs.HeadReading.{formed}
 use Rattle.cert_checker.specs.declared.faults.CheckError.{CheckError}
-use Rattle.cert_checker.specs.declared.faults.CheckError.TheVariants.{Fault, ReadFault as CheckReadFault, TooLong as CheckTooLong, NoMemory as CheckNoMemory}
+use Rattle.cert_checker.specs.declared.faults.CheckError.TheVariants.{Fault}
+use Rattle.cert_checker.specs.declared.faults.CheckError.TheVariants.{ReadFault as CheckReadFault}
+use Rattle.cert_checker.specs.declared.faults.CheckError.TheVariants.{TooLong as CheckTooLong}
+use Rattle.cert_checker.specs.declared.faults.CheckError.TheVariants.{NoMemory as CheckNoMemory}
 use Rattle.cert_checker.specs.Checking.{checking}
 use Rattle.resume_job.specs.declared.loading.LoadError.{LoadError}
-use Rattle.resume_job.specs.declared.loading.LoadError.TheVariants.{TooLong, ReadFault, Check, NoMemory}
+use Rattle.resume_job.specs.declared.loading.LoadError.TheVariants.{TooLong, ReadFault, Check}
+use Rattle.resume_job.specs.declared.loading.LoadError.TheVariants.{NoMemory}
 
 -- the error of a check of bytes in memory, no more than may be loaded
 abbrev pub RejectsText : List ℕ → CheckError → Type 0

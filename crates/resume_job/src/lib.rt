@@ -5,7 +5,6 @@ mod laws;
 mod loading;
 mod nodes;
 mod reopening;
-mod slice;
 #[cfg(test)]
 mod tests;
 

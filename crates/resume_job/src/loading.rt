@@ -1,19 +1,20 @@
 //! Loading a valid answer.
 
-ghost use Rattle.std.specs.Prelude.{◌≡◌, ◌≤◌, ℕ, List, length, IfOk, IfErr, IfSome, IsErrOf, IsTrue};
+ghost use Rattle.std.specs.Prelude.{◌≡◌, ◌-◌, ◌≤◌, ℕ, List, length, IfOk, IfErr, IfSome};
+ghost use Rattle.std.specs.Prelude.{IsErrOf, IsTrue};
 ghost use Rattle.port_io.specs.Bytes.{HasRest};
 ghost use Rattle.port_io.specs.Faults.{Rose};
 ghost use Rattle.siting_definitions.specs.AnswerText.{answer_text};
 ghost use Rattle.search_answer.specs.Ending.{answer_of};
-ghost use Rattle.resume_job.specs.Loading.{AreOfValid, IsOfSome, LoadsTo, UnlessReadFault, load_error_of};
+ghost use Rattle.resume_job.specs.Loading.{AreOfValid, IsOfSome, LoadsTo, LoadStopsWithin};
+ghost use Rattle.resume_job.specs.Loading.{UnlessReadFault, load_error_of};
 ghost use Rattle.resume_job.specs.Steps.{IsTextOf, RefusesText, RejectsText};
 
 use crate::nodes::read_text;
-use crate::slice::SliceSource;
 use cert_checker::{CheckError, CheckFault, check};
 use certificate::Head;
 use discard_log::NodeList;
-use port_io::{ReadAll, Source, read_up_to};
+use port_io::{ReadAll, SliceSource, Source, read_up_to};
 use std::alloc::Global;
 use thiserror::Error;
 
@@ -65,6 +66,10 @@ pub fn load<S: Source>(alloc: Global, source: &mut S) -> Result<(Head, NodeList)
     ensures read_fault { IsErrOf result LoadError.ReadFault
         → Rose (S.faults source.old) (S.faults source.new) }
     ensures later { S.faults source.old ≤ S.faults source.new }
+
+    // No more was read than the limit; where more came, at most a piece past it.
+    ensures stop { IfSome (S.left source.old) (λ xs. IfSome (S.left source.new)
+        (λ ys. LoadStopsWithin (length xs - length ys) result)) }
 
     // Over a strict source no read failed where the answer isn't `ReadFault`.
     ensures heard { IsTrue S.is_strict

@@ -11,11 +11,11 @@ ghost use Rattle.resume_job.specs.Loading.{AreOfValid};
 ghost use Rattle.resume_job.specs.Steps.{IsNext, IsTextOf};
 
 use crate::loading::LoadError;
-use crate::slice::SliceSource;
 use answer_model::is_split;
 use cert_checker::Walk;
 use certificate::{AnswerReader, Head, Item};
 use discard_log::{Mark, Node, NodeList};
+use port_io::SliceSource;
 use std::alloc::Global;
 
 /// The head and the nodes of the valid answer with so many nodes whose text these bytes are.

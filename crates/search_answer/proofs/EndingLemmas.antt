@@ -14,7 +14,7 @@ use Rattle.siting_definitions.specs.Sites.{opening_cost}
 use Rattle.siting_definitions.specs.Tree.{Tree, Fits, preorder}
 use Rattle.siting_definitions.specs.Marks.{IsAtMost, MarksFit, AreMarks, Tally, tally_of}
 use Rattle.siting_definitions.specs.Answer.{Head, IsHead, IsMark, IsPriced, upper_cost, is_solved, is_floored, is_empty, is_stopped, has_word, WordCounts, CountsFit, IsValid, WorkFits, IsWorkedBy}
-use Rattle.siting_definitions.proofs.Integers.{le_trans_ℤ}
+use Rattle.siting_definitions.proofs.MarkLemmas.{at_most-trans}
 use Rattle.discard_log.specs.declared.node.Node.{Node}
 use Rattle.discard_log.specs.Nodes.{tree_square}
 use Rattle.bound_heap.specs.declared.entry.Entry.{Entry}
@@ -162,12 +162,6 @@ offer_is : (j : Job) (best : Option (Pt × ℤ)) → MatchOption best ⊤ (λ z.
 offer_is j None h = refl
 offer_is j (Some b) h = ap (λ c. Some (b.0, c)) (sym h.cost_is)
 
-opening_past : (opening start u : Option ℤ) → MatchOption opening ⊤ (IsAtMost start) → MatchOption start ⊤ (IsAtMost u) → MatchOption opening ⊤ (IsAtMost u)
-opening_past None start u h k = tt
-opening_past (Some z) None u h k = absurd h
-opening_past (Some z) (Some n) None h k = absurd k
-opening_past (Some z) (Some n) (Some m) h k = le_trans_ℤ m n z k h
-
 -- ---- the squares
 waiting_squares : (es : List Entry) → map tree_square (map left_of es) ≡ map entry_square es
 waiting_squares [] = refl
@@ -232,7 +226,7 @@ answer_valid s best ls h ranges mark_ranges =
       head = record {
         best = best_priced s.job best h.finished.best_is;
         opening = subst (λ u. MatchOption (opening_cost s.job.instance) ⊤ (IsAtMost u)) (sym (upper_is s.job best h.finished.best_is))
-            (opening_past (opening_cost s.job.instance) (start_cost s.job) (cost_in best) h.finished.sound.job.opening h.finished.sound.start);
+            (at_most-trans (cost_in best) (start_cost s.job) (opening_cost s.job.instance) h.finished.sound.start h.finished.sound.job.opening);
       };
       tree = marks_valid s best ls h;
       end_fits = record {

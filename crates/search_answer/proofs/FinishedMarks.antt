@@ -16,7 +16,7 @@ use Rattle.siting_definitions.specs.Marks as marks
 use Rattle.siting_definitions.specs.Marks.{IsAtMost, reaches, leaf_mark, SplitFits, MarksFit, is_split, is_leaf, is_open, Tally, tally_of}
 use Rattle.siting_definitions.proofs.Integers.{le-int_le, le_trans_ℤ}
 use Rattle.dyadic_square.proofs.Bag.{total, once, total-append, total-length, total-permutation, count_by-total}
-use Rattle.siting_definitions.proofs.MarkLemmas.{leaf_unsplit}
+use Rattle.siting_definitions.proofs.MarkLemmas.{leaf_unsplit, leaf-not_split}
 use Rattle.discard_log.specs.declared.node.Node.{Node}
 use Rattle.discard_log.specs.Nodes.{tree_square}
 use Rattle.bound_heap.specs.declared.entry.Entry.{Entry}
@@ -162,15 +162,8 @@ total-most : {X : Type 0} (f : X → ℕ) → ((x : X) → f x ≤ 1) → (xs : 
 total-most f each [] = omega arith
 total-most f each (x ∷ xs) = omega (arith, each x, total-most f each xs)
 
-leaf_split : (m : Mark) → is_leaf m ≡ not (is_split m)
-leaf_split (Split v) = refl
-leaf_split Shut = refl
-leaf_split (Bounded b) = refl
-leaf_split (Floor b) = refl
-leaf_split (Left b) = refl
-
 leaf_node : (j : Job) (u : Option ℤ) (n : Node) → is_leaf (finished_mark j u n) ≡ not (is_split n.mark)
-leaf_node j u n = leaf_split (finished_mark j u n) ∙ ap not (node_split j u n)
+leaf_node j u n = leaf-not_split (finished_mark j u n) ∙ ap not (node_split j u n)
 
 none_open : (j : Job) (u : Option ℤ) (ns : List Node) → All (NodeFits j.instance j.gap u) ns → total (λ n. once (is_open (finished_mark j u n))) ns ≡ 0
 none_open j u [] h = refl

@@ -1,7 +1,9 @@
 -- The answer that a search ends with.
-use Rattle.std.specs.Prelude.{◌≡◌, ℕ, ◌+◌, ◌≤◌, ◌==◌, ℤ, true, if◌then◌else◌, not, is_some, List, map, filter, length, Option, Some, None, option_map, IsPermutation}
+use Rattle.std.specs.Prelude.{◌≡◌, ℕ, ◌+◌, ◌≤◌, ◌==◌, ℤ, true, if◌then◌else◌, not, is_some, List}
+use Rattle.std.specs.Prelude.{map, filter, length, Option, Some, None, option_map, IsPermutation}
 use Rattle.siting_definitions.specs.declared.Word.{Word}
-use Rattle.siting_definitions.specs.declared.Word.TheVariants.{Solved, PoolFull, Budget, Floor, Empty}
+use Rattle.siting_definitions.specs.declared.Word.TheVariants.{Solved, PoolFull, Budget, Floor}
+use Rattle.siting_definitions.specs.declared.Word.TheVariants.{Empty}
 use Rattle.siting_definitions.specs.Point.{Pt}
 use Rattle.siting_definitions.specs.Instance.{Instance}
 use Rattle.siting_definitions.specs.Bounds.{lower_of, upper_of}
@@ -12,7 +14,8 @@ use Rattle.siting_definitions.specs.declared.Mark.{Mark}
 use Rattle.discard_log.specs.declared.node.Node.{Node}
 use Rattle.discard_log.specs.Nodes.{mark_of, tree_square}
 use Rattle.pool_core.specs.declared.stop.Stop.{Stop}
-use Rattle.pool_core.specs.declared.stop.Stop.TheVariants.{PoolFull as FullStop, Budget as BudgetStop}
+use Rattle.pool_core.specs.declared.stop.Stop.TheVariants.{PoolFull as FullStop}
+use Rattle.pool_core.specs.declared.stop.Stop.TheVariants.{Budget as BudgetStop}
 use Rattle.pool_core.specs.Job.{Job, job_root, cost_in}
 use Rattle.pool_core.specs.State.{State, squares_of}
 

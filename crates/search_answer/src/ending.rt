@@ -1,6 +1,7 @@
 //! The answer that a search ends with.
 
-ghost use Rattle.std.specs.Prelude.{◌≡◌, ℕ, ◌<◌, ◌≤◌, ◌^◌, map, length, is_some, All, false, slice_set, slice_index_or};
+ghost use Rattle.std.specs.Prelude.{◌≡◌, ℕ, ◌<◌, ◌≤◌, ◌^◌, map, length, is_some, All, false};
+ghost use Rattle.std.specs.Prelude.{slice_set, slice_index_or};
 ghost use Rattle.siting_definitions.specs.Answer.{IsHead, IsMark, IsWorkedBy};
 ghost use Rattle.siting_definitions.specs.Marks as marks;
 ghost use Rattle.discard_log.specs.declared.node.Node as nodes_of;

@@ -4,12 +4,14 @@ use Rattle.std.specs.Prelude.{⊤, MatchOption, IsPermutation, sum_by}
 use Rattle.std.specs.declared.snapshot.Snapshot.{Snapshot}
 use Rattle.std.proofs.lemmas.Bool.{false≢true}
 use Rattle.std.proofs.lemmas.List.Sorted.{IsPermutation-refl}
+use Rattle.std.proofs.lemmas.List.{nil_from_length}
 use mathlib.Core.Option.{some, some-injective, some-ne-none}
 use lib.ListN.{get_elem?}
 use Rattle.atomic_table.specs.Table.{Final, Seen, opening}
 use Rattle.siting_definitions.specs.Point.{Pt}
 use Rattle.siting_definitions.specs.Instance.{Instance}
 use Rattle.siting_definitions.specs.Marks.{IsAtMost}
+use Rattle.siting_definitions.proofs.MarkLemmas.{at_most-refl}
 use Rattle.objectives.specs.Limits.{IsCost}
 use Rattle.objectives.proofs.SiteSizes.{upper_of-IsCost}
 use Rattle.incumbent_word.specs.Word.{number_in}
@@ -24,7 +26,7 @@ use Rattle.pool_core.specs.Seats.{StopsWithin, IsKeptBy}
 use Rattle.shared_pool.specs.Views.{first_view}
 use Rattle.shared_pool.specs.TableFits.{IsReached, HasView, HasOffered, SeatFits, ViewFits, RootFits, TableFits, IsLast, is_desk_role, incumbent_in, turn_word}
 use Rattle.shared_pool.specs.Steps.{Seat, IsAtRest}
-use Rattle.shared_pool.proofs.Incumbents.{at_most-itself, cost-below}
+use Rattle.shared_pool.proofs.Incumbents.{cost-below}
 use Rattle.shared_pool.proofs.ViewLists.{has_lease, term-le, sums-le}
 use Rattle.shared_pool.proofs.Runs.{search, reached-itself, reached-sound}
 use Rattle.shared_pool.proofs.Moves.{Table, turn_of, desk_count}
@@ -42,7 +44,7 @@ only v x (suc j) at = absurd (some-ne-none x (sym at))
 -- the start is right, with its own number as the incumbent
 start-right : (i : Instance) (start : Option (Pt × ℤ)) → MatchOption start ⊤ (λ b. IsOffer i b.0 b.1) → MatchOption start ⊤ (λ b. IsOffer i b.0 b.1 × IsAtMost (cost_in start) b.1)
 start-right i None h = tt
-start-right i (Some b) h = (h, at_most-itself (Some b.1))
+start-right i (Some b) h = (h, at_most-refl (Some b.1))
 
 start-offered : (v : View) → MatchOption (cost_in v.best) ⊤ (HasOffered (v ∷ []))
 start-offered v = of_cost (cost_in v.best) refl
@@ -75,12 +77,12 @@ starts about word opened is =
             record {
               first_is = refl;
               turn = λ has. absurd (false≢true has);
-              seen = at_most-itself (start_cost pool.job);
-              seen_start = at_most-itself (start_cost pool.job);
+              seen = at_most-refl (start_cost pool.job);
+              seen_start = at_most-refl (start_cost pool.job);
               best = start-right pool.job.instance pool.job.start opened.sound.job.job.start;
               ended = λ has. absurd (false≢true has);
             },
-            record { seat = t.0; turn = refl; lease = refl; best = at_most-itself (start_cost pool.job) },
+            record { seat = t.0; turn = refl; lease = refl; best = at_most-refl (start_cost pool.job) },
           ));
       offered = subst (λ (u : Option ℤ). MatchOption u ⊤ (HasOffered (v ∷ []))) (sym is) (start-offered v);
       root = v;
@@ -115,10 +117,6 @@ turn-desk first shown u j v h = by_role v.role h
     by_role Root k = let zero : turn_of v ≡ 0 = ap (λ (b : Bool). cond b 1 0) k.1.turn in omega arith
     by_role Desk k = at_most v.has_turn
     by_role Spent k = let zero : turn_of v ≡ 0 = ap turn_of k in omega arith
-
-no_length : {X : Type 0} (xs : List X) → length xs ≡ 0 → xs ≡ []
-no_length [] e = refl
-no_length (x ∷ xs) e = absurd (omega arith)
 
 -- with no desk out, an offer that stands at some seat stands at the root desk's
 offer-root : (first shown : State) (u : Option ℤ) (vs : List View) (v : View) (c : ℤ) → HasView vs 0 v → sum_by desk_count vs ≡ 0 → ((j : ℕ) (x : View) → HasView vs j x → SeatFits first shown u j x x.role) → HasOffered vs c → cost_in v.best ≡ Some c
@@ -167,7 +165,7 @@ module _ (about : Snapshot State) (s : Table) (o : TableFits about s) (v : View)
   none_leased : o.shown.leased ≡ []
   none_leased =
       let none_has = nobody in
-      no_length o.shown.leased
+      nil_from_length o.shown.leased
       (omega (arith, none_has, leased-count about s o, sums-le has_lease desk_count s.views (λ j x there. lease-desk about.value o.shown (incumbent_in s) j x (o.views j x there))))
 
   known : ViewFits about.value o.shown (incumbent_in s) v
@@ -193,7 +191,7 @@ module _ (about : Snapshot State) (s : Table) (o : TableFits about s) (v : View)
         finished = λ ended. record {
           job = o.job;
           leased = none_leased;
-          ended = λ going. let none_open = known.ended ended going in no_length o.shown.waiting (omega (arith, none_open));
+          ended = λ going. let none_open = known.ended ended going in nil_from_length o.shown.waiting (omega (arith, none_open));
           sound = subst (λ (u : Option ℤ). IsSound (search o.shown u)) number sound;
           best_is = offer;
         };

@@ -14,6 +14,7 @@ use Rattle.atomic_table.proofs.Lists.{set_here, set_else}
 use Rattle.siting_definitions.specs.Point.{Pt}
 use Rattle.siting_definitions.specs.Instance.{Instance}
 use Rattle.siting_definitions.specs.Marks.{IsAtMost, lesser}
+use Rattle.siting_definitions.proofs.MarkLemmas.{at_most-refl, at_most-trans}
 use Rattle.incumbent_word.specs.Word.{word_of, number_in}
 use Rattle.objectives.specs.Limits.{IsCost}
 use Rattle.objectives.proofs.SiteSizes.{upper_of-IsCost}
@@ -26,7 +27,7 @@ use Rattle.shared_pool.specs.declared.view.Role.TheVariants.{Desk}
 use Rattle.shared_pool.specs.Views.{view_after_look, view_after_offer}
 use Rattle.shared_pool.specs.TableFits.{HasView, HasOffered, IsReached, ViewFits, TableFits, incumbent_in, incumbent_word, turn_word}
 use Rattle.shared_pool.specs.Steps.{Seat, HasSmallCosts, IsIncumbentAfter, told_by_look, told_by_offer}
-use Rattle.shared_pool.proofs.Incumbents.{cost-below, number-min, lesser-falls, lesser-offer, at_most-itself, at_most-trans, falls-at}
+use Rattle.shared_pool.proofs.Incumbents.{cost-below, number-min, lesser-falls, lesser-offer, falls-at}
 use Rattle.shared_pool.proofs.Runs.{search, reached-offer, reached-sound}
 use Rattle.shared_pool.proofs.Moves.{Table, Falls, moved, quiet, of_desk, within}
 
@@ -73,7 +74,7 @@ module _ (about : Snapshot State) (s : Table) (o : TableFits about s) (id : ℕ)
         here = record {
           first_is = known.first_is;
           turn = known.turn;
-          seen = at_most-itself (incumbent_in s);
+          seen = at_most-refl (incumbent_in s);
           seen_start = at_most-trans (incumbent_in s) v.seen (start_cost about.value.job) known.seen known.seen_start;
           best = known.best;
           ended = known.ended;
@@ -179,7 +180,7 @@ module _ (about : Snapshot State) (s : Table) (o : TableFits about s) (id : ℕ)
             (record {
               first_is = known.first_is;
               turn = known.turn;
-              seen = at_most-itself after;
+              seen = at_most-refl after;
               seen_start = falls-at (incumbent_in s) after (start_cost about.value.job) falls
                   (at_most-trans (incumbent_in s) v.seen (start_cost about.value.job) known.seen known.seen_start);
               best = better-right about.value.job.instance (incumbent_in s) v.best site upper known.best fair;

@@ -57,18 +57,6 @@ pub lesser-offer : (u : Option ℤ) (c : ℤ) → IsAtMost (lesser u (Some c)) c
 lesser-offer None c = omega (arith, ints)
 lesser-offer (Some n) c = omega (arith, ints, clamps)
 
--- an incumbent is at most itself
-pub at_most-itself : (u : Option ℤ) → MatchOption u ⊤ (IsAtMost u)
-at_most-itself None = tt
-at_most-itself (Some n) = omega (arith, ints)
-
--- a number that is at most what was seen is at most all that is at least that
-pub at_most-trans : (a b c : Option ℤ) → MatchOption b ⊤ (IsAtMost a) → MatchOption c ⊤ (IsAtMost b) → MatchOption c ⊤ (IsAtMost a)
-at_most-trans a b None h k = tt
-at_most-trans a None (Some z) h k = absurd k
-at_most-trans None (Some y) (Some z) h k = absurd h
-at_most-trans (Some x) (Some y) (Some z) h k = omega (arith, ints)
-
 -- what something is at most still bounds it where it falls
 pub falls-at : (u v c : Option ℤ) → ((z : ℤ) → IsAtMost u z → IsAtMost v z) → MatchOption c ⊤ (IsAtMost u) → MatchOption c ⊤ (IsAtMost v)
 falls-at u v None falls h = tt

@@ -283,9 +283,6 @@ idles first v answer pool no_lease nothing same end = record {
   kept = λ n going most less held. subst (λ (x : State). StopsWithin n (x.kept + length x.leased) x.stop) (sym same) held;
 }
 
-some≢none : {X : Type 0} (x : X) → Some x ≡ None → ⊥
-some≢none x e = grind (arith)
-
 -- the stop comes with the budget's end
 halts : (first : State) (v : View) (stop : Stop) (pool : State) → v.lease ≡ None → pool.stop ≡ Some stop → Halts v.taken pool → Gives first v (view_after_lease v (Stopped stop) pool) pool
 halts first v stop pool no_lease said h = record {
@@ -293,8 +290,8 @@ halts first v stop pool no_lease said h = record {
   job = ap (λ (x : State). x.job) h.halted;
   beginning = ap (λ (x : State). x.beginning) h.halted;
   leases = λ f. let a = ap (λ (l : Option Entry). total f (option_to_list l)) no_lease in let c = ap (λ (x : State). total f x.leased) h.halted in omega (arith, a, c);
-  over = λ over going. absurd (some≢none stop (sym said ∙ going));
-  ended = λ e. inr (λ going. absurd (some≢none stop (sym said ∙ going)));
+  over = λ over going. absurd (let no : Some stop ≡ None = sym said ∙ going in cc);
+  ended = λ e. inr (λ going. absurd (let no : Some stop ≡ None = sym said ∙ going in cc));
   kept = λ n going most less held.
       let kept : pool.kept ≡ 0 = ap (λ (x : State). x.kept) h.halted ∙ going h.going in
       let leased : length pool.leased ≡ length v.taken.leased = ap (λ (x : State). length x.leased) h.halted in
@@ -323,7 +320,7 @@ leases first v e pool no_lease h = record {
 
 lease_gives : (first : State) (v : View) (answer : LeaseAnswer) (pool : State) → v.lease ≡ None → LeaseAnswers answer v.taken pool → Gives first v (view_after_lease v answer pool) pool
 lease_gives first v (Stopped stop) pool no_lease h = ⊎_elim
-    (λ same. idles first v (Stopped stop) pool no_lease refl same (λ end going. absurd (some≢none stop (sym h.0 ∙ going))))
+    (λ same. idles first v (Stopped stop) pool no_lease refl same (λ end going. absurd (let no : Some stop ≡ None = sym h.0 ∙ going in cc)))
     (λ (k : Halts v.taken pool). halts first v stop pool no_lease h.0 k) h.1
 lease_gives first v Done pool no_lease h =
     let waiting : length pool.waiting ≡ 0 = ap (λ (x : State). length x.waiting) h.3 ∙ ap (λ (xs : List Entry). length xs) h.1 in
@@ -384,7 +381,7 @@ kept-after true n kept kept' leased leased' count stop stop' going most one more
 over-after : (b : Bool) (count : ℕ) (stop stop' : Option Stop) → stop' ≡ cond b (first_stop stop (PoolFull count)) stop → stop' ≡ None → stop ≡ None
 over-after false count stop stop' e none_now = sym e ∙ none_now
 over-after true count None stop' e none_now = refl
-over-after true count (Some s) stop' e none_now = absurd (some≢none s (sym e ∙ none_now))
+over-after true count (Some s) stop' e none_now = absurd (let no : Some s ≡ None = sym e ∙ none_now in cc)
 
 return_gives : (first : State) (v : View) (e : Entry) (pool : State) → first ≡ v.first → v.taken.job ≡ v.first.job → v.lease ≡ Some e → (is_part (finding_of v.first.job e v.seen) ≡ true → MatchOption (centre_cost v.first.job.instance e.square) ⊤ (IsAtMost v.seen))
     → Returns e v.seen (finding_of v.first.job e v.seen) v.taken pool → Gives first v (view_after_return v pool) pool

@@ -16,7 +16,8 @@ use Rattle.shared_pool.specs.declared.leasing.TryLease.{TryLease}
 use Rattle.shared_pool.specs.declared.leasing.TryLease.TheVariants as leasing
 use Rattle.shared_pool.specs.declared.returning.TryReturn.{TryReturn}
 use Rattle.shared_pool.specs.declared.returning.TryReturn.TheVariants as returning
-use Rattle.shared_pool.specs.Views.{view_after_loss, view_after_win, view_after_lease, view_after_return}
+use Rattle.shared_pool.specs.Views.{view_after_loss, view_after_win, view_after_lease}
+use Rattle.shared_pool.specs.Views.{view_after_return}
 
 -- The desk took the turn and found a pool, which gave this answer to one who asked for a lease, and
 -- gave the turn with the pool as the answer left it.

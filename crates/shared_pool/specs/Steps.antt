@@ -14,7 +14,8 @@ use Rattle.pool_core.specs.Job.{IsOffer, start_cost}
 use Rattle.pool_core.specs.State.{State}
 use Rattle.shared_pool.specs.declared.view.View.{View}
 use Rattle.shared_pool.specs.declared.view.Role.{Role}
-use Rattle.shared_pool.specs.Views.{view_after_look, view_after_offer, view_after_loss, view_after_win, view_after_lease, view_after_return}
+use Rattle.shared_pool.specs.Views.{view_after_look, view_after_offer, view_after_loss}
+use Rattle.shared_pool.specs.Views.{view_after_win, view_after_lease, view_after_return}
 
 -- u is the incumbent, or none, at a moment after the desk has seen what it has seen
 pub record IsIncumbentAfter (v : View) (u : Option ℤ) : Type 0 where

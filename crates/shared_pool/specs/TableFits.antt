@@ -1,5 +1,7 @@
 -- The rule of the table: what holds between any two steps, of whatever desks.
-use Rattle.std.specs.Prelude.{◌≡◌, ℕ, ◌+◌, ◌≤◌, ℤ, Bool, true, false, List, [], ◌∷◌, ◌++◌, length, slice_index, count_by, option_to_list, IsPermutation, Option, Some, None, MatchOption, ⊤}
+use Rattle.std.specs.Prelude.{◌≡◌, ℕ, ◌+◌, ◌≤◌, ℤ, Bool, true, false, List, [], ◌∷◌, ◌++◌, length}
+use Rattle.std.specs.Prelude.{slice_index, count_by, option_to_list, IsPermutation, Option, Some}
+use Rattle.std.specs.Prelude.{None, MatchOption, ⊤}
 use Rattle.std.specs.declared.snapshot.Snapshot.{Snapshot}
 use mathlib.Core.Option.{some}
 use lib.ListN.{get_elem?}

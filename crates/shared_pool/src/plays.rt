@@ -4,8 +4,10 @@ ghost use Rattle.std.specs.Prelude.{ℤ, pos};
 ghost use Rattle.siting_definitions.specs.Point.{Pt};
 ghost use Rattle.pool_core.specs.declared.lease.LeaseAnswer as answers;
 ghost use Rattle.pool_core.specs.declared.lease.LeaseAnswer.TheVariants.{Idle};
-ghost use Rattle.shared_pool.specs.Views.{root_after_joining, root_after_seating, seated_view, spent_view};
-ghost use Rattle.shared_pool.specs.Steps.{told_by_lease, told_by_look, told_by_offer, told_by_return, told_by_take};
+ghost use Rattle.shared_pool.specs.Views.{root_after_joining, root_after_seating, seated_view};
+ghost use Rattle.shared_pool.specs.Views.{spent_view};
+ghost use Rattle.shared_pool.specs.Steps.{told_by_lease, told_by_look, told_by_offer};
+ghost use Rattle.shared_pool.specs.Steps.{told_by_return, told_by_take};
 
 use crate::view::View;
 use atomic_table::{Join, Play, Split};

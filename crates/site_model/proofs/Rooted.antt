@@ -23,6 +23,7 @@ use Rattle.convex_region.proofs.Boxes.{x_of, y_of}
 use Rattle.convex_region.proofs.BoxLemmas.{least-at, greatest-at, lies_in_box}
 use Rattle.site_model.specs.Box.{IsBoxWithin, square_of_box}
 use Rattle.site_model.proofs.Extremes.{least_from_below, greatest_from_above}
+use Rattle.site_model.proofs.Vertices.{some_vertices, places_of, IsBoxWithin-bounds}
 
 -- ---- binary digits
 double : (k : ℕ) → 2 ^ (k + 1) ≡ 2 * 2 ^ k
@@ -88,7 +89,15 @@ IsSquare-over e box =
       upper = corner_fits e.y0 _ box.lower short;
     }
 
--- the same, with the parts of the square as the code has them
+-- the starting square of an instance within the limits is within the limits
+pub IsSquare-root : (i : Instance) → IsInstance i → IsSquare (root_of i)
+IsSquare-root i is =
+    let vs = vertices i.permitted in
+    let some = is.few_permitted in
+    let box = IsBoxWithin-bounds vs (some_vertices i.permitted (omega arith) is.permitted) (places_of i.permitted is.permitted) in
+    subst IsSquare (root_is (box_of vs) i.permitted i refl refl) (IsSquare-over (box_of vs) box)
+
+-- the square over a box, with the parts of the square as the code has them
 pub IsSquare-by : (e : Extent) (x y : ℤ) (n : ℕ) → IsBoxWithin e → x ≡ e.x0 → y ≡ e.y0 → n ≡ (square_of_box e).level → IsSquare (record { x = x; y = y; level = n })
 IsSquare-by e x y n box x_is y_is n_is = rw (x_is, y_is, n_is) (IsSquare-over e box)
 

@@ -1,9 +1,10 @@
 -- The search by one worker: what holds between two leases.
-use Rattle.std.proofs.Common.{◌≡◌, ℕ, ◌+◌, ℤ, ◌≤ℤ◌, ◌<ℤ◌, Bool, true, false, cond, List, [], ◌∷◌, Option, None, Some, length, refl, sym, ap, ◌∙◌, subst, ◌⊎◌, inl, inr, ⊎_elim, arith}
+use Rattle.std.proofs.Common.{◌≡◌, ℕ, ◌+◌, ℤ, ◌≤ℤ◌, ◌<ℤ◌, Bool, true, false, cond, [], ◌∷◌, Option, None, Some, length, refl, sym, ap, ◌∙◌, subst, ◌⊎◌, inl, inr, ⊎_elim, arith}
 use Rattle.std.specs.Prelude.{⊤, MatchOption, option_map, int_lt}
 use Rattle.std.proofs.lemmas.Bool.{cases_Bool}
 use Rattle.std.specs.List.{Contains}
 use Rattle.std.proofs.lemmas.Int.{clamps}
+use Rattle.std.proofs.lemmas.List.{nil_from_length}
 use Rattle.std.proofs.lemmas.List.Sorted.{length_permutation, Contains-permutation}
 use borrow.Author.Differences.{ints}
 use Rattle.siting_definitions.specs.Point.{Pt}
@@ -24,9 +25,6 @@ use Rattle.pool_core.proofs.SoundSteps.{sound_lease, sound_halt, sound_offer, so
 use Rattle.pool_core.specs.Best.{IsImproved, better_of}
 use Rattle.pool_core.specs.Seats.{IsKeptBy, StopsWithin, is_full}
 use Rattle.site_workers.specs.Search.{SearchEnds, IsBetween, centre_offer}
-
-some≢none : {X : Type 0} (x : X) → Some x ≡ None → ⊥
-some≢none x e = grind (arith)
 
 -- ---- the best site
 better-cost : (best offered : Option (Pt × ℤ)) → cost_in (better_of best offered) ≡ lesser (cost_in best) (cost_in offered)
@@ -49,7 +47,7 @@ better-offer i (Some b) (Some o) h k = ⊎_elim (λ t. rw t k) (λ f. rw f h) (c
 improved-more : (start best offered : Option (Pt × ℤ)) → IsImproved start best → IsImproved start (better_of best offered)
 improved-more start best None h = h
 improved-more None None (Some o) h = tt
-improved-more (Some s) None (Some o) h = absurd (some≢none s h)
+improved-more (Some s) None (Some o) h = absurd cc
 improved-more None (Some b) (Some o) h = ⊎_elim (λ t. rw t tt) (λ f. rw f tt) (cases_Bool (int_lt o.1 b.1))
 improved-more (Some s) (Some b) (Some o) h = ⊎_elim (λ t. rw t (inr (below h (less t)))) (λ f. rw f h) (cases_Bool (int_lt o.1 b.1))
   where
@@ -121,10 +119,6 @@ kept_after : (kept : Bool) (n count count' : ℕ) (stop stop' : Option Stop) →
 kept_after true n count count' stop stop' none e e' f = rw (f, none) (omega (arith, e, e'))
 kept_after false n count count' stop stop' none e e' f = rw (f, none) (omega (arith, e, e'))
 
-no_length : {X : Type 0} (xs : List X) → length xs ≡ 0 → xs ≡ []
-no_length [] e = refl
-no_length (x ∷ xs) e = absurd (omega arith)
-
 -- what was leased is leased
 pub leased_one : (s s1 : State) (e : Entry) → Leases e s s1 → Contains s1.leased e
 leased_one s s1 e l = Contains-permutation (e ∷ s.leased) s1.leased e l.leased (0, omega arith, refl)
@@ -146,7 +140,7 @@ turned_from first s s1 s2 e best best' b t =
     let rest : length s2.leased ≡ 0 = let p = length_permutation s1.leased (e ∷ s2.leased) t.returns.leased in omega (arith, one, p) in
     record {
       job = t.returns.job;
-      leased = no_length s2.leased rest;
+      leased = nil_from_length s2.leased rest;
       sound = sound_return e u' (record { state = s1; incumbent = u' }) (record { state = s2; incumbent = u' }) (may, t.returns, refl) priced;
       best_is = subst (λ (z : Option (Pt × ℤ)). MatchOption z ⊤ (λ o. IsOffer s1.job.instance o.0 o.1)) (sym t.best_is) (better-offer s1.job.instance best offered b.best_is t.offer);
       improved = improved;
@@ -192,14 +186,14 @@ kept_by_one s s' none kept (inr halts) =
 
 -- a search that was stopped ended
 pub ended_by : (s : State) (stop : Stop) → s.stop ≡ Some stop → s.stop ≡ None → s.waiting ≡ []
-ended_by s stop said going = absurd (some≢none stop (sym said ∙ going))
+ended_by s stop said going = absurd (let no : Some stop ≡ None = sym said ∙ going in cc)
 
 -- a search in which nothing waited ended as it was
 pub ended_with : (s s' : State) → s' ≡ s → s.waiting ≡ [] → s'.stop ≡ None → s'.waiting ≡ []
 ended_with s s' same none going = ap (λ (t : State). t.waiting) same ∙ none
 
 halted : (j : Job) (first s : State) (stop : Stop) (best : Option (Pt × ℤ)) → IsBetween j first s best → s.stop ≡ Some stop → IsFinished j s best
-halted j first s stop best b said = record { job = b.job; leased = b.leased; ended = λ going. absurd (some≢none stop (sym said ∙ going)); sound = b.sound; best_is = b.best_is }
+halted j first s stop best b said = record { job = b.job; leased = b.leased; ended = λ going. absurd (let no : Some stop ≡ None = sym said ∙ going in cc); sound = b.sound; best_is = b.best_is }
 
 -- a stop was there, or it comes at the spent budget
 pub stopped : (j : Job) (first s s' : State) (stop : Stop) (best : Option (Pt × ℤ)) → IsBetween j first s best → (s'.stop ≡ Some stop) → ((s' ≡ s) ⊎ Halts s s') → IsFinished j s' best
@@ -210,7 +204,7 @@ stopped j first s s' stop best b said (inr halts) =
     record {
       job = ap (λ (t : State). t.job) after ∙ b.job;
       leased = ap (λ (t : State). t.leased) after ∙ b.leased;
-      ended = λ going. absurd (some≢none stop (sym said ∙ going));
+      ended = λ going. absurd (let no : Some stop ≡ None = sym said ∙ going in cc);
       sound = sound_halt (record { state = s; incumbent = cost_in best }) (record { state = s'; incumbent = cost_in best }) (halts, refl) b.sound;
       best_is = b.best_is;
     }

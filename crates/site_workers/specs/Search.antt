@@ -1,5 +1,6 @@
 -- The search by one worker.
-use Rattle.std.specs.Prelude.{◌≡◌, ◌⊎◌, ℤ, if◌then◌else◌, List, [], ◌∷◌, Option, Some, None, option_map, MatchOption, ⊤}
+use Rattle.std.specs.Prelude.{◌≡◌, ◌⊎◌, ℤ, if◌then◌else◌, List, [], ◌∷◌, Option, Some, None}
+use Rattle.std.specs.Prelude.{option_map, MatchOption, ⊤}
 use Rattle.siting_definitions.specs.Point.{Pt}
 use Rattle.siting_definitions.specs.Instance.{Instance}
 use Rattle.siting_definitions.specs.Square.{Square}

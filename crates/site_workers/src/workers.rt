@@ -1,6 +1,7 @@
 //! A team of workers over one shared pool.
 
-ghost use Rattle.std.specs.Prelude.{◌≡◌, ◌≤◌, ◌<◌, true, [], length, All, IfOk, MatchOption, ⊤, vec_len, vec_capacity};
+ghost use Rattle.std.specs.Prelude.{◌≡◌, ◌≤◌, ◌<◌, true, [], length, All, IfOk, MatchOption, ⊤};
+ghost use Rattle.std.specs.Prelude.{vec_len, vec_capacity};
 ghost use denote.Param.Send.{IsSync};
 ghost use Rattle.siting_definitions.specs.Marks.{IsAtMost};
 ghost use Rattle.pool_core.specs.Job as jobs;

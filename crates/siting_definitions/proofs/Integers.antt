@@ -2,7 +2,7 @@
 -- such differences into one difference of naturals, on which `omega` decides.
 use Rattle.std.proofs.lemmas.Int.{by_lt_z, clamps}
 use Rattle.std.proofs.lemmas.Bool.{cases_lt}
-use Rattle.std.proofs.Common.{⊎_elim, sym, ◌≡◌, ℕ, ◌+◌, ◌*◌, ◌≤◌, ◌<◌, ℤ, pos, negsuc, ◌+ℤ◌, ◌-ℤ◌, ◌*ℤ◌, neg_ℤ, ◌≤ℤ◌, ◌<ℤ◌, ap, arith}
+use Rattle.std.proofs.Common.{⊎_elim, sym, ◌≡◌, ℕ, ◌+◌, ◌-◌, ◌*◌, ◌≤◌, ◌<◌, ℤ, pos, negsuc, ◌+ℤ◌, ◌-ℤ◌, ◌*ℤ◌, neg_ℤ, ◌≤ℤ◌, ◌<ℤ◌, ap, arith}
 use Rattle.std.proofs.Math.Nat.{mul-le-mul_left}
 use borrow.Author.Differences.{up, down, same_in, sum_is_lem, neg_is, product_is, at_most_in, below_in, le_out, lt_out, ints, true_is_le, false_is_le, true_is_lt, false_is_lt}
 use Rattle.std.specs.Prelude.{int_le, int_lt, unsigned_abs, true, false}
@@ -143,6 +143,14 @@ square_le m n h = omega (arith, mul-le-mul_left m h, mul-le-mul_left n h)
 pub square_cancel_le : (m n : ℕ) → m * m ≤ n * n → m ≤ n
 square_cancel_le m n h =
     ⊎_elim (λ less. let more : (n + 1) * (n + 1) ≤ m * m = square_le (n + 1) m (omega arith) in absurd (omega arith)) (λ le. le) (cases_lt n m)
+
+-- twice a product is at most the sum of both squares
+twice-ordered : (m n : ℕ) → m ≤ n → 2 * (m * n) ≤ m * m + n * n
+twice-ordered m n h = let k = n - m in let e : n ≡ m + k = omega arith in rw e (omega arith)
+
+pub twice-product : (m n : ℕ) → 2 * (m * n) ≤ m * m + n * n
+twice-product m n =
+    ⊎_elim (λ less. twice-ordered m n (omega arith)) (λ more. let e = twice-ordered n m more in omega (arith, e)) (cases_lt m n)
 
 -- ---- the size of a number
 -- the size of a number of at least 0 is the number

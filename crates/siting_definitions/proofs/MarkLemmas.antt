@@ -1,6 +1,7 @@
--- The finished mark of a leaf, case by case; what the mark of a split square may be; and the lesser of bounds that may be
--- absent.
-use Rattle.std.proofs.Common.{◌≡◌, ◌==◌, ℤ, ◌+ℤ◌, Bool, true, false, cond, Option, None, Some, refl, ap, ◌∙◌, ⊎_elim}
+-- The finished mark of a leaf, case by case; what the mark of a split square may be; and numbers that may be absent: the order
+-- of them, and the lesser of two.
+use Rattle.std.proofs.Common.{◌≡◌, ◌==◌, ℤ, ◌+ℤ◌, Bool, true, false, cond, not, Option, None, Some, refl, ap, ◌∙◌, ⊎_elim}
+use Rattle.std.specs.Prelude.{MatchOption, ⊤}
 use Rattle.std.proofs.lemmas.Bool.{cases_Bool, cond-true, cond-false}
 use Rattle.siting_definitions.specs.declared.Mark.{Mark}
 use Rattle.siting_definitions.specs.declared.Mark.TheVariants.{Split, Shut, Bounded, Floor, Left}
@@ -8,8 +9,8 @@ use Rattle.siting_definitions.specs.Instance.{Instance}
 use Rattle.siting_definitions.specs.Square.{Square}
 use Rattle.siting_definitions.specs.Bounds.{fine_of}
 use Rattle.siting_definitions.specs.Excluded.{is_excluded}
-use Rattle.siting_definitions.specs.Marks.{reaches, leaf_mark, SplitFits, lesser, bound_of, is_split}
-use Rattle.siting_definitions.proofs.Integers.{int_min-assoc}
+use Rattle.siting_definitions.specs.Marks.{IsAtMost, reaches, leaf_mark, SplitFits, lesser, bound_of, is_split, is_leaf}
+use Rattle.siting_definitions.proofs.Integers.{int_min-assoc, le_refl_ℤ, le_trans_ℤ}
 
 -- ---- a leaf
 -- the four finished marks of a leaf, each where its case holds
@@ -68,7 +69,31 @@ split_bound i gap u s (Bounded b) h = absurd h
 split_bound i gap u s (Floor b) h = absurd h
 split_bound i gap u s (Left b) h = absurd h
 
--- ---- the lesser of two numbers that may be absent
+-- a leaf is what isn't split
+pub leaf-not_split : (m : Mark) → is_leaf m ≡ not (is_split m)
+leaf-not_split (Split v) = refl
+leaf-not_split Shut = refl
+leaf-not_split (Bounded b) = refl
+leaf-not_split (Floor b) = refl
+leaf-not_split (Left b) = refl
+
+-- ---- numbers that may be absent
+pub at_most-refl : (a : Option ℤ) → MatchOption a ⊤ (IsAtMost a)
+at_most-refl None = tt
+at_most-refl (Some x) = le_refl_ℤ x
+
+pub at_most-trans : (a b c : Option ℤ) → MatchOption b ⊤ (IsAtMost a) → MatchOption c ⊤ (IsAtMost b)
+    → MatchOption c ⊤ (IsAtMost a)
+at_most-trans a b None h k = tt
+at_most-trans a None (Some z) h k = absurd k
+at_most-trans None (Some y) (Some z) h k = absurd h
+at_most-trans (Some x) (Some y) (Some z) h k = le_trans_ℤ x y z h k
+
+-- ---- the lesser of two of them
+pub lesser-none : (a : Option ℤ) → lesser a None ≡ a
+lesser-none None = refl
+lesser-none (Some x) = refl
+
 -- the lesser of three, taken in either order
 pub lesser-assoc : (a b c : Option ℤ) → lesser (lesser a b) c ≡ lesser a (lesser b c)
 lesser-assoc None b c = refl

@@ -1,5 +1,6 @@
 -- Lines of bytes, and the fields of a line.
-use Rattle.std.specs.Prelude.{ℕ, ◌-◌, ◌==◌, Bool, true, ◌||◌, if◌then◌else◌, List, [], ◌∷◌, length, take, map, slice_index}
+use Rattle.std.specs.Prelude.{ℕ, ◌-◌, ◌==◌, Bool, true, ◌||◌, if◌then◌else◌, List, [], ◌∷◌, length}
+use Rattle.std.specs.Prelude.{take, map, slice_index}
 
 -- a byte put before the first of some pieces
 abbrev pub onto : ℕ → List (List ℕ) → List (List ℕ)

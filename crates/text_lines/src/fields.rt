@@ -1,8 +1,10 @@
 //! The fields of a line.
 
-ghost use Rattle.std.specs.Prelude.{◌≡◌, ◌<◌, ◌≤◌, false, true, [], ◌∷◌, length, take, drop, IfSome, IfNone};
+ghost use Rattle.std.specs.Prelude.{◌≡◌, ◌<◌, ◌≤◌, false, true, [], ◌∷◌, length, take, drop};
+ghost use Rattle.std.specs.Prelude.{IfSome, IfNone};
 ghost use Rattle.std.specs.Str.{bytes_eq};
-ghost use Rattle.text_lines.specs.Lines.{is_gap as is_gap_byte, begins_with_gap, fields_of, is_passed_over as is_passed};
+ghost use Rattle.text_lines.specs.Lines.{is_gap as is_gap_byte, begins_with_gap, fields_of};
+ghost use Rattle.text_lines.specs.Lines.{is_passed_over as is_passed};
 
 /// The first field of a line and the bytes after it, or none where the line is blank.
 ///

@@ -2,7 +2,8 @@
 
 ghost use Rattle.std.specs.Prelude.{◌≡◌, ◌+◌, ◌*◌, ◌<◌, ◌≤◌, ◌^◌};
 ghost use Rattle.std.specs.Option.{option_map};
-ghost use Rattle.text_lines.specs.Numbers.{digits_of, number_of, saturated, saturated_size, within, HasSize};
+ghost use Rattle.text_lines.specs.Numbers.{digits_of, number_of, saturated, saturated_size, within};
+ghost use Rattle.text_lines.specs.Numbers.{HasSize};
 
 /// What a field is, where a number of at most some size is asked for.
 #[derive(Clone, Copy, Debug, PartialEq, Eq)]

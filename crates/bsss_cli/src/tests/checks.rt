@@ -1,10 +1,13 @@
 //! Checks of answers.
 
-use super::{CORNER_ANSWER, run_words, sink_of, words_of};
+use super::{CORNER_ANSWER, ONE_LEASE_ANSWER, run_words, sink_of, words_of};
 use crate::{OpenGate, Status, run};
 use cert_checker::CheckFault;
 use port_io::MemSource;
 use std::test::Fail;
+
+/// A check by one worker, and by teams.
+const CHECKS: [&str; 3] = ["check", "check workers=3", "check workers=64"];
 
 #[test]
 fn an_answer_is_checked(rt: HostRuntime) -> Result<(), Fail> {
@@ -40,16 +43,65 @@ fn an_answer_is_checked(rt: HostRuntime) -> Result<(), Fail> {
     for (tail, code, text) in cases {
         let mut answer = String::from_str(rt.alloc(), head)?;
         answer.push_str(tail)?;
-        let (ended, sink) = run_words(&rt, rt.alloc(), "check", answer.as_str())?;
-        assert_eq!(rt; ended, code, "{text}");
-        assert_eq!(rt; sink.bytes(), text.as_bytes());
+        for line in CHECKS {
+            let (ended, sink) = run_words(&rt, rt.alloc(), line, answer.as_str())?;
+            assert_eq!(rt; ended, code, "{line}: {text}");
+            assert_eq!(rt; sink.bytes(), text.as_bytes(), "{line}");
+        }
+    }
+    Ok(())
+}
+
+#[test]
+fn each_kind_of_fault_is_found(rt: HostRuntime) -> Result<(), Fail> {
+    // A text in the answer, what stands in its place, and what is written.
+    let cases = [
+        (
+            "cost 185363 185364",
+            "cost 185363 185365",
+            "rejected 4 line 11 has 185365 wants 185364\n",
+        ),
+        (
+            "site 0 0\ncost 185363 185364",
+            "site none\ncost none",
+            "rejected 14 line 11 has none wants 185364\n",
+        ),
+        ("S 185364", "S -", "rejected 10 line 17\n"),
+        ("S 185364", "S 185365", "rejected 10 line 17\n"),
+        ("O 0", "X", "rejected 7 line 18\n"),
+        ("B 185363", "O 185363", "rejected 9 line 21\n"),
+        ("answer budget", "answer solved", "rejected 12 line 22\n"),
+        ("leases 1", "leases 0", "rejected 13 line 22\n"),
+        ("O 0", "O 9223372036854775808", "rejected 1 line 18\n"),
+        ("O 0", "O 00", "rejected 1 line 18\n"),
+        // Two faults, of which the first is told, and one before a line that is missing.
+        (
+            "O 131072\nO 131072\nB 185363",
+            "O 131073\nO 131072\nO 185363",
+            "rejected 8 line 19 has 131073 wants 131072\n",
+        ),
+        (
+            "O 131072\nO 131072\nB 185363",
+            "O 131073\nO 131072",
+            "rejected 8 line 19 has 131073 wants 131072\n",
+        ),
+    ];
+    for (part, other, wanted) in cases {
+        let at = ONE_LEASE_ANSWER.find(part).ok_or("no such part")?;
+        let mut answer = String::from_str(rt.alloc(), &ONE_LEASE_ANSWER[..at])?;
+        answer.push_str(other)?;
+        answer.push_str(&ONE_LEASE_ANSWER[at + part.len()..])?;
+        for line in CHECKS {
+            let (code, sink) = run_words(&rt, rt.alloc(), line, answer.as_str())?;
+            assert_eq!(rt; code, 5, "{line}: {wanted}");
+            assert_eq!(rt; sink.bytes(), wanted.as_bytes(), "{line}");
+        }
     }
     Ok(())
 }
 
 #[test]
 fn a_fault_comes_before_a_later_failure_of_the_source(rt: HostRuntime) -> Result<(), Fail> {
-    let words = words_of(rt.alloc(), "check")?;
     let root = "root 196608 262144 19\n";
     let at = CORNER_ANSWER.find(root).ok_or("no root")? + root.len();
     let mut text = String::from_str(rt.alloc(), &CORNER_ANSWER[..at])?;
@@ -67,11 +119,14 @@ fn a_fault_comes_before_a_later_failure_of_the_source(rt: HostRuntime) -> Result
         (read + 1, Status::Rejected(fault)),
     ];
     for (call, wanted) in cases {
-        let held = Vec::from_slice(rt.alloc(), text.as_bytes())?;
-        let mut source = MemSource::new(held, 1, Vec::from_slice(rt.alloc(), &[call])?);
-        let mut sink = sink_of(rt.alloc(), 64, 0)?;
-        let status = run(&rt, rt.alloc(), &words, &mut source, &mut sink, &OpenGate);
-        assert_eq!(rt; status, wanted);
+        for line in CHECKS {
+            let words = words_of(rt.alloc(), line)?;
+            let held = Vec::from_slice(rt.alloc(), text.as_bytes())?;
+            let mut source = MemSource::new(held, 1, Vec::from_slice(rt.alloc(), &[call])?);
+            let mut sink = sink_of(rt.alloc(), 64, 0)?;
+            let status = run(&rt, rt.alloc(), &words, &mut source, &mut sink, &OpenGate);
+            assert_eq!(rt; status, wanted, "{line}");
+        }
     }
     Ok(())
 }

@@ -1,7 +1,6 @@
-//! What is refused, and ports that fail.
+//! What is refused.
 
-use super::{CORNER, run_words, sink_of, source_of, words_of};
-use crate::{OpenGate, Status, run};
+use super::run_words;
 use std::test::Fail;
 
 #[test]
@@ -26,6 +25,26 @@ fn each_refusal_has_its_text(rt: HostRuntime) -> Result<(), Fail> {
             3,
             "bad instance 16 line 5\n",
         ),
+        (
+            "solve",
+            "siting 1\nkind sum\npoint 0 0 99999999999999999999999999999999999999999\n\
+            permit 3 4 9 4 3 10\nend\n",
+            3,
+            "bad instance 4 line 3\n",
+        ),
+        (
+            "solve",
+            "siting 1\nkind sum\npoint 0 0 -0\npermit 3 4 9 4 3 10\nend\n",
+            3,
+            "bad instance 5 line 3\n",
+        ),
+        (
+            "solve",
+            "siting 1\nkind sum\npoint 0 0 1.5\npermit 3 4 9 4 3 10\nend\n",
+            3,
+            "bad instance 3 line 3\n",
+        ),
+        ("solve gap=4611686018427387905", "", 2, "bad words\n"),
         ("solve --gap=1", "", 2, "bad words\n"),
         ("solve gap=1 gap=2", "", 2, "bad words\n"),
         ("solve gap=1 ppm=2", "", 2, "bad words\n"),
@@ -35,6 +54,18 @@ fn each_refusal_has_its_text(rt: HostRuntime) -> Result<(), Fail> {
         ("", "", 2, "bad words\n"),
         ("check", "", 5, "rejected 1 line 1\n"),
         ("check gap=1", "", 2, "bad words\n"),
+        ("check workers=0", "", 2, "bad words\n"),
+        ("check workers=65", "", 2, "bad words\n"),
+        ("check workers=2 workers=2", "", 2, "bad words\n"),
+        ("check workers=2", "", 5, "rejected 1 line 1\n"),
+        ("polish", "", 5, "rejected 1 line 1\n"),
+        ("polish x=1", "", 2, "bad words\n"),
+        ("near", "", 5, "rejected 1 line 1\n"),
+        ("near depth=17", "", 2, "bad words\n"),
+        ("near limit=0", "", 2, "bad words\n"),
+        ("near limit=1000001", "", 2, "bad words\n"),
+        ("near slack=1152921504606846977", "", 2, "bad words\n"),
+        ("near depth=1 depth=1", "", 2, "bad words\n"),
         ("trial seed=7", "", 2, "bad words\n"),
         ("trial seed=7 points=4 workers=1", "", 2, "bad words\n"),
     ];
@@ -43,25 +74,5 @@ fn each_refusal_has_its_text(rt: HostRuntime) -> Result<(), Fail> {
         assert_eq!(rt; ended, code, "{line}");
         assert_eq!(rt; sink.bytes(), text.as_bytes(), "{line}");
     }
-    Ok(())
-}
-
-#[test]
-fn a_failing_source_and_a_failing_sink(rt: HostRuntime) -> Result<(), Fail> {
-    let words = words_of(rt.alloc(), "solve gap=0")?;
-
-    let mut source = source_of(rt.alloc(), CORNER, 2)?;
-    let mut sink = sink_of(rt.alloc(), 64, 0)?;
-    let status = run(&rt, rt.alloc(), &words, &mut source, &mut sink, &OpenGate);
-    assert_eq!(rt; status, Status::ReadFault);
-    assert_eq!(rt; status.code(), 6);
-    assert_eq!(rt; sink.bytes(), b"".as_slice());
-
-    let mut source = source_of(rt.alloc(), CORNER, 0)?;
-    let mut sink = sink_of(rt.alloc(), 10, 3)?;
-    let status = run(&rt, rt.alloc(), &words, &mut source, &mut sink, &OpenGate);
-    assert_eq!(rt; status, Status::WriteFault);
-    assert_eq!(rt; status.code(), 7);
-    assert_eq!(rt; sink.bytes(), b"siting answer 1\nsiti".as_slice());
     Ok(())
 }

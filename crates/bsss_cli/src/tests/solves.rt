@@ -1,6 +1,6 @@
 //! Solves, by their answers.
 
-use super::{CORNER, CORNER_ANSWER, LONE_TOWN, run_words};
+use super::{CORNER, CORNER_ANSWER, LONE_TOWN, NOWHERE, OFF_THE_GRID, TEN_TOWNS, run_words};
 use std::test::Fail;
 
 #[test]
@@ -44,8 +44,7 @@ fn each_solve_writes_its_answer(rt: HostRuntime) -> Result<(), Fail> {
         ),
         (
             "solve",
-            "siting 1\nkind sum\npoint 0 0 1\npermit 0 0 2 0 2 2 0 2\n\
-            forbid -10 -10 10 -10 10 10 -10 10\nend\n",
+            NOWHERE,
             13,
             "gap 65536\nbudget 100000\npool 100000\nsite none\ncost none\nbound none\n\
             answer empty\nopen 0\nleases 1\nroot 0 0 18\nX\nend\n",
@@ -147,9 +146,7 @@ fn count_lines(text: &[u8], start: &[u8]) -> usize {
 
 #[test]
 fn a_point_off_the_grid_ends_at_the_floor(rt: HostRuntime) -> Result<(), Fail> {
-    let instance = "siting 1\nkind sum\npoint 0 0 1\npermit 0 0 1 0 0 1\nforbid -8 -8 8 -8 8 8\n\
-        forbid -3 7 -3 -7 4 -7\nforbid 7 -3 7 4 -7 4\nend\n";
-    let (code, sink) = run_words(&rt, rt.alloc(), "solve", instance)?;
+    let (code, sink) = run_words(&rt, rt.alloc(), "solve", OFF_THE_GRID)?;
     assert_eq!(rt; code, 12);
     let lines: [(&[u8], usize); 9] = [
         (b"site none", 1),
@@ -190,16 +187,10 @@ fn a_repelling_town_is_left_as_far_as_can_be(rt: HostRuntime) -> Result<(), Fail
 
 #[test]
 fn ten_towns_are_solved(rt: HostRuntime) -> Result<(), Fail> {
-    let instance = "siting 1\nkind sum\npoint 12000 34000 45000\npoint 56000 71000 120000\n\
-        point 80500 22300 64000\npoint 33300 90100 18000\npoint 97000 55000 27000\n\
-        point 5000 80000 9000\npoint 61000 48000 210000\npoint 47000 15000 33000\n\
-        point 72000 93000 51000\npoint 25000 60000 76000\n\
-        permit 0 0 100000 0 100000 100000 0 100000\n\
-        forbid 40000 50000 58000 52000 60000 62000 45000 66000 38000 58000\nend\n";
-    let (code, sink) = run_words(&rt, rt.alloc(), "solve", instance)?;
+    let (code, sink) = run_words(&rt, rt.alloc(), "solve", TEN_TOWNS)?;
     assert_eq!(rt; code, 0);
     assert_eq!(rt; count_lines(sink.bytes(), b"answer solved"), 1);
-    let (unsolved, sink) = run_words(&rt, rt.alloc(), "solve budget=0", instance)?;
+    let (unsolved, sink) = run_words(&rt, rt.alloc(), "solve budget=0", TEN_TOWNS)?;
     assert_eq!(rt; unsolved, 11);
     assert_eq!(rt; count_lines(sink.bytes(), b"O "), 1);
     Ok(())

@@ -1,6 +1,8 @@
 //! Solves by several workers.
 
-use super::{CORNER, CORNER_ANSWER, LONE_TOWN, run_words, sink_of, source_of, words_of};
+use super::{
+    CORNER, CORNER_ANSWER, LONE_TOWN, ONE_LEASE_ANSWER, run_words, sink_of, source_of, words_of,
+};
 use crate::{Gate, Moment, OpenGate, Status, run};
 use std::sync::atomic::{AtomicBool, AtomicU64, Ordering};
 use std::test::Fail;
@@ -10,12 +12,6 @@ const OPENING_ANSWER: &str =
     "siting answer 1\nsiting 1\nkind sum\npoint 2 2 1\npermit 0 0 4 0 4 4 0 4\nend\ngap 185\n\
     budget 0\npool 100000\nsite 0 0\ncost 185363 185364\nbound 0\nanswer budget\nopen 0\n\
     leases 0\nroot 0 0 19\nO 0\nend\n";
-
-/// The answer to `LONE_TOWN` after one lease.
-const ONE_LEASE_ANSWER: &str =
-    "siting answer 1\nsiting 1\nkind sum\npoint 2 2 1\npermit 0 0 4 0 4 4 0 4\nend\ngap 185\n\
-    budget 1\npool 100000\nsite 0 0\ncost 185363 185364\nbound 0\nanswer budget\nopen 0\n\
-    leases 1\nroot 0 0 19\nS 185364\nO 0\nO 131072\nO 131072\nB 185363\nend\n";
 
 #[test]
 fn the_one_answer_of_a_team(rt: HostRuntime) -> Result<(), Fail> {

@@ -5,7 +5,8 @@ ghost use Rattle.std.specs.Borrow.{sem, RestsIfErr};
 ghost use Rattle.line_stream.specs.Stream.{stream};
 ghost use Rattle.certificate.specs.HeadReading.{coming_of, head_reading};
 ghost use Rattle.certificate.specs.ReaderView.{coming, source_of, stream_of, BeginsAs};
-ghost use Rattle.certificate.specs.Beginnings.{coming_then, start_of, ReadsHead, BeginRead, HeadRead, LeavesAs};
+ghost use Rattle.certificate.specs.Beginnings.{coming_then, start_of, ReadsHead, BeginRead};
+ghost use Rattle.certificate.specs.Beginnings.{HeadRead, LeavesAs};
 
 use crate::reader::head::read_head_lines;
 use crate::reader::{AnswerError, AnswerLines, AnswerReader};

@@ -3,7 +3,9 @@
 ghost use Rattle.std.specs.Prelude.{◌≡◌, ◌≤◌, ◌≤ℤ◌, length, IfOk, IfSome};
 ghost use Rattle.line_stream.specs.Stream.{stream};
 ghost use Rattle.certificate.specs.Forms as forms;
-ghost use Rattle.certificate.specs.HeadReading.{formed, limits_part, best_part, outcome_part, head_from, lines_after as after_instance, head_reading};
+ghost use Rattle.certificate.specs.HeadReading.{formed, limits_part, best_part, outcome_part};
+ghost use Rattle.certificate.specs.HeadReading.{head_from, lines_after as after_instance};
+ghost use Rattle.certificate.specs.HeadReading.{head_reading};
 ghost use Rattle.certificate.specs.AnswerReading.{Read, ReadInMemory};
 ghost use Rattle.certificate.specs.ReaderView.{coming, source_of, faults_of, stream_of, ReadsTo};
 ghost use Rattle.certificate.specs.Blames.{Blames};

@@ -6,4 +6,4 @@ pub returns : goal.returns
 returns g c =
     let number : c.as_bytes.result.now ≡ decimal c.args.fault.number = search rules in
     let line : c.as_bytes-2.result.now ≡ decimal c.args.fault.line = search rules in
-    rw (number, line) at c.put_fault.ensures
+    rw (number, line) at c.put_two.ensures

@@ -1,7 +1,5 @@
-use Rattle.std.proofs.Common.{◌≡◌, ℕ, List, Option, None, Some, refl, sym, subst, ap, ◌∙◌, false, true, rules, cond}
-use Rattle.command_line.specs.declared.command.Command.{Command}
-use Rattle.command_line.specs.declared.command.Command.TheVariants.{Solve, Check, Make, Trial}
-use Rattle.bsss_cli.specs.Commands.{promise_of}
+use Rattle.std.proofs.Common.{◌≡◌, None, Some, refl, rules}
+use Rattle.command_line.specs.declared.command.Command.TheVariants.{Make, Trial}
 use Rattle.bsss_cli.specs.Make.{make}
 use Rattle.bsss_cli.specs.Trial.{trial}
 use Rattle.bsss_cli.proofs.OutcomeLemmas.{Ran-refusal, Ran-unread}

@@ -1,6 +1,6 @@
 use Rattle.std.proofs.Common.{Some, refl, rules}
 use Rattle.bsss_cli.specs.Solve.{solve}
-use Rattle.bsss_cli.proofs.OutcomeLemmas.{Ended-says, Ended-no_memory}
+use Rattle.bsss_cli.proofs.OutcomeLemmas.{Ended-says}
 use Rattle.bsss_cli.proofs.commands.solve.begin_text.Goals as goal
 
 pub returns-in-Err-Fault : goal.returns-in-Err-Fault

@@ -1,7 +1,6 @@
-use Rattle.std.proofs.Common.{◌≡◌, ℕ, ◌+◌, ◌*◌, ◌≤◌, List, Option, Some, Bool, true, refl, sym, ap, ◌∙◌, subst, arith}
-use Rattle.std.specs.Prelude.{length, map, is_some}
+use Rattle.std.proofs.Common.{◌≤◌, List, ap, arith}
+use Rattle.std.specs.Prelude.{length, is_some}
 use Rattle.std.proofs.lemmas.List.{length-map}
-use Rattle.port_io.specs.MemoryPorts.{sure_taken}
 use Rattle.siting_definitions.specs.AnswerText.{answer_text}
 use Rattle.siting_definitions.specs.Answer.{Answer}
 use Rattle.discard_log.specs.declared.node.Node.{Node}

@@ -1,6 +1,9 @@
-use Rattle.std.proofs.Common.{◌++◌}
-use Rattle.line_stream.proofs.LineLemmas.{in_line-then, rest_fails, rest_ends}
+use Rattle.std.proofs.Common.{[], ◌++◌}
+use Rattle.line_stream.proofs.LineLemmas.{in_line-none, in_line-then, rest_fails, rest_ends}
 use Rattle.line_stream.proofs.lines.Lines.skip_line.Goals as goal
+
+pub loop-init : goal.loop-init
+loop-init g c = ([], in_line-none g.row.LIMIT _)
 
 pub returns-in_err-read_piece : goal.returns-in_err-read_piece
 returns-in_err-read_piece g c =

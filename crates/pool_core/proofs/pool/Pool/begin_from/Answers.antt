@@ -7,8 +7,8 @@ use Rattle.pool_core.specs.Job.{Job}
 use Rattle.pool_core.specs.JobFields.{job_of}
 use Rattle.pool_core.specs.Begun.{IsBegunFrom, IsResumable}
 use Rattle.pool_core.specs.Pool.{state_of}
-use Rattle.pool_core.proofs.BegunLemmas.{waiting_count}
-use Rattle.pool_core.proofs.Resumed.{IsBegun, begun_fits, begun_state, closed_length}
+use Rattle.pool_core.proofs.BegunLemmas.{waiting_count, closed_length}
+use Rattle.pool_core.proofs.Resumed.{IsBegun, begun_fits, begun_state}
 use Rattle.pool_core.proofs.pool.Pool.begin_from.Goals as goal
 
 pub sort_out-requires-clause-log : goal.sort_out-requires-clause-log

@@ -1,6 +1,6 @@
 use Rattle.std.proofs.Common.{rules, refl}
 use Rattle.port_io.proofs.PutLemmas.{Wrote-finish, Wrote-stop}
-use Rattle.bsss_cli.proofs.output.put_fault.Goals as goal
+use Rattle.bsss_cli.proofs.output.put_two.Goals as goal
 
 pub returns-in_err-put_pieces : goal.returns-in_err-put_pieces
 returns-in_err-put_pieces g c = Wrote-stop c.new-out.ensures.stage refl c.from_residual.ensures.0 c.in_err-put_pieces.ensures.put (search rules)

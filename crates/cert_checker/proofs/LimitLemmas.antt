@@ -1,13 +1,14 @@
 -- A check of bytes within the limit never finds them too long.
-use Rattle.std.proofs.Common.{◌≡◌, ℕ, zero, suc, ◌+◌, ◌^◌, ◌==◌, ◌≤◌, Bool, true, false, cond, List, [], ◌∷◌, length, Option, None, Some, Result, Ok, Err, refl, sym, ap, ◌∙◌, subst, arith}
+use Rattle.std.proofs.Common.{◌≡◌, ℕ, ◌+◌, ◌^◌, ◌≤◌, Bool, true, false, List, [], ◌∷◌, length, Option, None, Some, Result, Ok, Err, sym, ap, subst}
 use Rattle.std.specs.Prelude.{⊤}
 use Rattle.siting_definitions.specs.declared.Mark.{Mark}
 use Rattle.siting_definitions.specs.Instance.{Instance}
 use Rattle.siting_definitions.specs.Sites.{root_of}
 use Rattle.siting_definitions.specs.Answer.{Head}
 use Rattle.instance_text.specs.Reading.{and_then}
-use Rattle.line_stream.specs.Input.{Input, input_of, input_from, onto_lines}
+use Rattle.line_stream.specs.Input.{Input}
 use Rattle.line_stream.specs.Coming.{Coming, first_line}
+use Rattle.line_stream.proofs.InputLemmas.{goes_on-within}
 use Rattle.certificate.specs.declared.reader.AnswerError.{AnswerError}
 use Rattle.certificate.specs.declared.reader.AnswerError.TheVariants.{Form, Instance as BadInstance, TooLong, ReadFault, NoMemory}
 use Rattle.certificate.specs.declared.reader.Item.{Item}
@@ -20,24 +21,6 @@ use Rattle.cert_checker.specs.declared.faults.CheckError.TheVariants.{Fault, Rea
 use Rattle.cert_checker.specs.declared.checking.Accepted.{Accepted}
 use Rattle.cert_checker.specs.Faults.{head_fault_of}
 use Rattle.cert_checker.specs.Checking.{Progress, error_of, unless_fault, read_ok, accepted_of, node_fault, take_mark, last_fault, at_end, at_item, items_of, after_head, checking, start_of, progress_after}
-
--- ---- the input
-onto_ends : (b : ℕ) (lines : List (List ℕ)) (i : Input) → (onto_lines b lines i).goes_on ≡ i.goes_on
-onto_ends b [] i = refl
-onto_ends b (line ∷ lines) i = refl
-
-from_ends : (b : ℕ) (i : Input) → (input_from b i).goes_on ≡ i.goes_on
-from_ends b i = by_test (b == 10)
-  where
-    by_test : (t : Bool) → (cond t (record i { lines = [] ∷ i.lines }) (onto_lines b i.lines i)).goes_on ≡ i.goes_on
-    by_test true = refl
-    by_test false = onto_ends b i.lines i
-
-input_ends : (limit : ℕ) (bytes : List ℕ) → length bytes ≤ limit → (input_of limit bytes).goes_on ≡ false
-unfolding input_of
-input_ends limit [] within = refl
-input_ends zero (b ∷ bytes) within = absurd (omega arith)
-input_ends (suc limit) (b ∷ bytes) within = from_ends b (input_of limit bytes) ∙ input_ends limit bytes (omega arith)
 
 -- ---- the head
 -- what is to come ends
@@ -171,4 +154,4 @@ pub checking-not_long : (bytes : List ℕ) → length bytes ≤ 2 ^ 30 → check
 unfolding checking
 checking-not_long bytes within long =
     subst IsNotLong long
-    (after_head_not_long (head_reading (coming_of bytes)) (head_ends (coming_of bytes) (input_ends answer_limit bytes within)))
+    (after_head_not_long (head_reading (coming_of bytes)) (head_ends (coming_of bytes) (goes_on-within answer_limit bytes within)))

@@ -1,0 +1,3 @@
+pub mod Lines
+pub mod Batches
+pub mod BatchReading
