@@ -36,7 +36,7 @@ pub(crate) fn sentence_of(status: Status) -> &'static str {
         }
         Status::Empty => {
             "no point is permitted: the forbidden polygons hold the permitted ones, borders and \
-            all"
+            all. The answer stands, and proves it (docs/GUIDE.md, \"When it isn't solved\")"
         }
         Status::SmallBudget { .. } => {
             "the budget counts from the squares that the answer has split: it has to be at least \
