@@ -16,7 +16,7 @@ unsafe extern "C" {
 }
 
 /// A polygon as the proved code keeps it: its corners in lengths, and its box in grid units.
-struct Polygon {
+pub struct Polygon {
     corners: Vec<(i32, i32)>,
     low: (i64, i64),
     high: (i64, i64),
@@ -24,7 +24,7 @@ struct Polygon {
 
 impl Polygon {
     /// A polygon of 64 corners near a circle, all in lengths.
-    fn round(x: i64, y: i64, radius: i64) -> Self {
+    pub fn round(x: i64, y: i64, radius: i64) -> Self {
         let corner = |k: i32| {
             let angle = f64::from(k) / 64.0 * std::f64::consts::TAU;
             let at = |middle: i64, part: f64| middle as i32 + (radius as f64 * part).round() as i32;
@@ -70,18 +70,22 @@ fn std_excluded(permitted: &[Polygon], forbidden: &[Polygon], square: SquareRow)
     permitted.iter().all(|p| is_apart(p, square)) || forbidden.iter().any(|p| encloses(p, square))
 }
 
-fn text_of(permitted: &[Polygon], forbidden: &[Polygon]) -> String {
-    let mut text = String::from("siting 1\nkind sum\npoint 0 0 1\n");
-    for (word, polygons) in [("permit", permitted), ("forbid", forbidden)] {
-        for polygon in polygons {
-            text.push_str(word);
-            for (x, y) in &polygon.corners {
-                write!(text, " {x} {y}").unwrap();
-            }
-            text.push('\n');
+/// The lines of an instance text that say these polygons.
+pub fn polygon_lines(word: &str, polygons: &[Polygon]) -> String {
+    let mut text = String::new();
+    for polygon in polygons {
+        text.push_str(word);
+        for (x, y) in &polygon.corners {
+            write!(text, " {x} {y}").unwrap();
         }
+        text.push('\n');
     }
-    text + "end\n"
+    text
+}
+
+fn text_of(permitted: &[Polygon], forbidden: &[Polygon]) -> String {
+    let head = String::from("siting 1\nkind sum\npoint 0 0 1\n");
+    head + &polygon_lines("permit", permitted) + &polygon_lines("forbid", forbidden) + "end\n"
 }
 
 fn call(text: &str, squares: &[SquareRow], answers: &mut [u8]) {

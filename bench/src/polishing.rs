@@ -1,7 +1,8 @@
 //! Polishes of answers, against their checks.
 
 use crate::largest;
-use crate::solving::{Instance, numbers_of, run, run_twice, time_of_check};
+use crate::program::{numbers_of, run, run_twice, time_of_check};
+use crate::reference::{Instance, Point};
 
 /// A leaf with its bound.
 struct Leaf {
@@ -36,8 +37,8 @@ fn centre_bound(i: &Instance, leaf: &Leaf) -> i64 {
     }
     let half = 1i64 << (leaf.level - 1);
     let (mut at_centre, mut right, mut upper) = (0i128, 0i64, 0i64);
-    for &(a, b, w) in &i.points {
-        let (dx, dy) = (leaf.x + half - a, leaf.y + half - b);
+    for &Point { x, y, w, .. } in &i.objective.points {
+        let (dx, dy) = (leaf.x + half - x, leaf.y + half - y);
         let squared = |z: i64| u128::from(z.unsigned_abs()).pow(2);
         let m = squared(dx) + squared(dy);
         let root = m.isqrt() as i64;

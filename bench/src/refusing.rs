@@ -1,6 +1,6 @@
 //! A trial against its solve and its check, and texts of 2^30 bytes that are refused.
 
-use crate::solving::run;
+use crate::program::run;
 
 /// How often each is run, of which the best time counts.
 const TRIES: usize = 3;

@@ -1,7 +1,7 @@
 //! Searches that go on from an answer: whole commands by the wall clock, beside a check and beside one whole solve.
 
 use crate::largest;
-use crate::solving::{PROGRAM, run, time_of_check};
+use crate::program::{PROGRAM, run, time_of_check};
 use crate::teams::measured;
 
 /// How many times a command is timed, of which the best counts.

@@ -1,256 +1,189 @@
-//! A whole solve of 4,096 made points, against the same search in ordinary Rust, and checks of answers.
+//! Whole solves and checks of answers: the program, an earlier build of it where `BSSS_BEFORE` names one, and ordinary Rust. All
+//! answer the same.
 
+use crate::exclusion::{Polygon, polygon_lines};
 use crate::largest;
-use std::cmp::{Ordering, Reverse};
-use std::collections::BinaryHeap;
-use std::io::Write;
-use std::process::{Command, Stdio};
+use crate::numbers::Numbers;
+use crate::program::{PROGRAM, SLANT, numbers_of, run, run_at};
+use crate::reference::{self, Outcome};
+use crate::root_estimate::{EstimatedRoots, Roots, StdRoots};
+use std::fmt::Write;
 use std::time::Instant;
 
-pub const PROGRAM: &str = "../crates/bsss/out/bsss";
-const BUDGET: usize = 100_000;
-const POOL: usize = 100_000;
+/// How often each is timed, in turn. The best time counts.
+const ROUNDS: usize = 3;
 
-pub type Pt = (i64, i64);
-
-/// The program's output for these words and this input, and its time in milliseconds.
-pub fn run(words: &[&str], input: &[u8]) -> (String, f64) {
-    let start = Instant::now();
-    let mut program = Command::new(PROGRAM)
-        .args(words)
-        .stdin(Stdio::piped())
-        .stdout(Stdio::piped())
-        .stderr(Stdio::null())
-        .spawn()
-        .expect("the built program");
-    program.stdin.take().unwrap().write_all(input).unwrap();
-    let done = program.wait_with_output().unwrap();
-    (String::from_utf8(done.stdout).unwrap(), start.elapsed().as_secs_f64() * 1000.0)
+/// An instance, and the words of its solve.
+struct Case {
+    name: &'static str,
+    words: &'static [&'static str],
+    text: String,
+    /// Whether ordinary Rust solves it too.
+    has_reference: bool,
 }
 
-/// The numbers of the first line of a text that begins with this word.
-pub fn numbers_of(text: &str, word: &str) -> Vec<i64> {
-    let line = text.lines().find(|line| line.split(' ').next() == Some(word)).unwrap();
-    line.split(' ').skip(1).map(|field| field.parse().unwrap()).collect()
-}
-
-fn floor_root(m: u128) -> i128 {
-    m.isqrt() as i128
-}
-
-fn ceil_root(m: u128) -> i128 {
-    let root = m.isqrt();
-    (if root * root == m { root } else { root + 1 }) as i128
-}
-
-/// A square that waits or was settled.
-#[derive(Clone, Copy, PartialEq, Eq)]
-struct Entry {
-    x: i64,
-    y: i64,
-    level: u32,
-    bound: i64,
-    raised: bool,
-}
-
-impl PartialOrd for Entry {
-    fn partial_cmp(&self, other: &Self) -> Option<Ordering> {
-        Some(self.cmp(other))
-    }
-}
-
-impl Ord for Entry {
-    fn cmp(&self, other: &Self) -> Ordering {
-        Reverse(self.bound).cmp(&Reverse(other.bound))
-    }
-}
-
-/// Points with their weights, in grid units, in a permitted rectangle with a forbidden one.
-pub struct Instance {
-    pub points: Vec<(i64, i64, i64)>,
-    permitted: [Pt; 2],
-    forbidden: [Pt; 2],
-    weight: i64,
-}
-
-impl Instance {
-    pub fn read(text: &str) -> Instance {
-        let grid = |v: &i64| 65536 * v;
-        let points: Vec<_> = text
-            .lines()
-            .filter_map(|line| line.strip_prefix("point "))
-            .map(|fields| {
-                let n: Vec<i64> = fields.split(' ').map(|field| field.parse().unwrap()).collect();
-                (grid(&n[0]), grid(&n[1]), n[2])
-            })
-            .collect();
-        let rectangle = |word: &str| {
-            let n = numbers_of(text, word);
-            [(grid(&n[0]), grid(&n[1])), (grid(&n[4]), grid(&n[5]))]
-        };
-        let weight = points.iter().map(|p| p.2.abs()).sum();
-        Instance { permitted: rectangle("permit"), forbidden: rectangle("forbid"), points, weight }
+impl Case {
+    /// The number that the words give this name.
+    fn setting(&self, name: &str) -> Option<i64> {
+        let value = |word: &&str| word.strip_prefix(name)?.strip_prefix('=')?.parse().ok();
+        self.words.iter().find_map(value)
     }
 
-    fn total(&self, radius: impl Fn(i64, i64, i64) -> i128) -> i128 {
-        self.points.iter().map(|&(a, b, w)| i128::from(w) * radius(a, b, w)).sum()
-    }
-
-    /// The total of a square's radii, in units of 1/scale of a grid unit.
-    fn bound(&self, e: Entry, scale: u128) -> i128 {
-        let side = 1 << e.level;
-        self.total(|a, b, w| {
-            let near = |low: i64, p: i64| 0.max(low - p).max(p - low - side) as u128;
-            let far = |low: i64, p: i64| (low - p).abs().max((low + side - p).abs()) as u128;
-            if w > 0 {
-                let (dx, dy) = (near(e.x, a), near(e.y, b));
-                floor_root((dx * dx + dy * dy) * scale * scale)
-            } else {
-                let (dx, dy) = (far(e.x, a), far(e.y, b));
-                ceil_root((dx * dx + dy * dy) * scale * scale)
-            }
-        })
-    }
-
-    fn coarse(&self, e: Entry) -> i64 {
-        self.bound(e, 1) as i64
-    }
-
-    fn fine(&self, e: Entry) -> i64 {
-        self.bound(e, 65536).div_euclid(65536) as i64
-    }
-
-    /// The upper cost of a site.
-    fn upper(&self, z: Pt) -> i64 {
-        let total = self.total(|a, b, w| {
-            let (dx, dy) = ((z.0 - a).unsigned_abs() as u128, (z.1 - b).unsigned_abs() as u128);
-            let m = (dx * dx + dy * dy) << 32;
-            if w > 0 { ceil_root(m) } else { floor_root(m) }
-        });
-        -((-total).div_euclid(65536)) as i64
-    }
-
-    fn permits(&self, z: Pt) -> bool {
-        let [low, high] = self.permitted;
-        let [barred_low, barred_high] = self.forbidden;
-        let inside = low.0 <= z.0 && z.0 <= high.0 && low.1 <= z.1 && z.1 <= high.1;
-        inside && !(barred_low.0 < z.0 && z.0 < barred_high.0 && barred_low.1 < z.1 && z.1 < barred_high.1)
-    }
-
-    pub fn is_excluded(&self, (x, y): Pt, level: u32) -> bool {
-        let side = 1 << level;
-        let [low, high] = self.permitted;
-        let [barred_low, barred_high] = self.forbidden;
-        let apart = x > high.0 || x + side < low.0 || y > high.1 || y + side < low.1;
-        let in_x = barred_low.0 < x && x + side < barred_high.0;
-        apart || in_x && barred_low.1 < y && y + side < barred_high.1
-    }
-}
-
-enum Finding {
-    Settled,
-    Raise(i64),
-    Part(i64),
-}
-
-fn judge(i: &Instance, e: Entry, gap: i64, seen: i64) -> Finding {
-    if i.is_excluded((e.x, e.y), e.level) {
-        return Finding::Settled;
-    }
-    if e.raised {
-        let settled = i128::from(e.bound) + i128::from(gap) >= i128::from(seen) || e.level == 0;
-        return if settled { Finding::Settled } else { Finding::Part(e.bound) };
-    }
-    let c = e.bound.max(i.coarse(e));
-    if i128::from(c) + i128::from(gap) >= i128::from(seen) {
-        Finding::Settled
-    } else if e.level > 0 && i128::from(c) + i128::from(i.weight) - 1 + i128::from(gap) < i128::from(seen) {
-        Finding::Part(c)
-    } else {
-        Finding::Raise(i.fine(e))
-    }
-}
-
-/// The least upper cost, the least bound, the leases and the squares of a solve from the best corner.
-fn std_solve(i: &Instance) -> (i64, i64, usize, usize) {
-    let [low, high] = i.permitted;
-    let [barred_low, barred_high] = i.forbidden;
-    let corners = |l: Pt, h: Pt| [(l.0, l.1), (h.0, l.1), (h.0, h.1), (l.0, h.1)];
-    let vertices = corners(low, high).into_iter().chain(corners(barred_low, barred_high));
-    let mut least = vertices.filter(|z| i.permits(*z)).map(|z| i.upper(z)).min().unwrap();
-    let gap = (least.unsigned_abs() as u128 * 1000 / 1_000_000) as i64;
-    let extent = (high.0 - low.0).max(high.1 - low.1) / 65536;
-    let level = 16 + (extent as u64).ilog2() + 1;
-    let mut root = Entry { x: low.0, y: low.1, level, bound: 0, raised: false };
-    root.bound = i.coarse(root);
-    let mut waiting = BinaryHeap::from([root]);
-    let mut leaves = Vec::new();
-    let (mut leases, mut splits) = (0, 0);
-    while let Some(e) = waiting.pop() {
-        assert!(leases < BUDGET && waiting.len() + 4 <= POOL);
-        leases += 1;
-        let half = 1i64 << e.level >> 1;
-        let centre = (e.x + half, e.y + half);
-        if e.level > 0 && i.permits(centre) {
-            least = least.min(i.upper(centre));
-        }
-        match judge(i, e, gap, least) {
-            Finding::Settled => leaves.push(e),
-            Finding::Raise(bound) => waiting.push(Entry { bound, raised: true, ..e }),
-            Finding::Part(bound) => {
-                splits += 1;
-                for (x, y) in [(0, 0), (half, 0), (0, half), (half, half)] {
-                    waiting.push(Entry { x: e.x + x, y: e.y + y, level: e.level - 1, bound, raised: false });
-                }
-            }
-        }
-    }
-    let bound = leaves.iter().filter(|e| !i.is_excluded((e.x, e.y), e.level)).map(|e| i.fine(*e)).min().unwrap();
-    (least, bound, leases, splits + leaves.len())
-}
-
-/// An instance of one town beside a slanted edge, along which many squares stay open.
-pub const SLANT: &str = "siting 1\nkind sum\npoint -1000000 3 1\npermit 0 -1000000 1000000 -1000000 1000000 1000000 7 999999\nend\n";
-
-/// The output of the program for these words and this input, and the best time of two runs, in milliseconds.
-pub fn run_twice(words: &[&str], input: &str) -> (String, f64) {
-    let (output, first) = run(words, input.as_bytes());
-    (output, first.min(run(words, input.as_bytes()).1))
-}
-
-/// The best time of two checks of an accepted answer, in milliseconds.
-pub fn time_of_check(answer: &str) -> f64 {
-    let (said, time) = run_twice(&["check"], answer);
-    assert_eq!(said, "accepted\n");
-    time
-}
-
-/// Prints the times, and compares costs and bounds.
-pub fn measure() {
-    let (made, _) = run(&["make", "seed=7", "points=4096"], b"");
-    let (answer, first) = run(&["solve"], made.as_bytes());
-    let our_time = (0..2).map(|_| run(&["solve"], made.as_bytes()).1).fold(first, f64::min);
-    let instance = Instance::read(&made);
-    let mut their_time = f64::MAX;
-    let mut found = (0, 0, 0, 0);
-    for _ in 0..2 {
+    /// The solve in ordinary Rust, and its time in milliseconds.
+    fn reference<R: Roots>(&self) -> (Outcome, f64) {
+        let budget = self.setting("budget").unwrap_or(100_000);
         let start = Instant::now();
-        found = std_solve(&instance);
-        their_time = their_time.min(start.elapsed().as_secs_f64() * 1000.0);
+        let outcome = reference::solve::<R>(&self.text, self.setting("gap"), budget as usize);
+        (outcome, start.elapsed().as_secs_f64() * 1000.0)
     }
-    let (cost, bound, leases, squares) = found;
-    assert_eq!(cost, numbers_of(&answer, "cost")[1], "the upper costs");
-    assert_eq!(bound, numbers_of(&answer, "bound")[0], "the bounds");
-    println!("solving 4,096 made points, ms: the program, the search in ordinary Rust alone ({leases} leases, {squares} squares)");
-    println!("  {our_time:.0}, {their_time:.0}");
-    println!("checking that answer, ms: the program");
-    println!("  {:.0}", time_of_check(&answer));
-    let (large, time) = run(&["solve", "gap=0", "budget=1000000", "pool=1000000"], SLANT.as_bytes());
-    let nodes = large.lines().count() - 18;
-    println!("one town, 1,000,000 leases, ms: solving, checking its answer of {} bytes with {nodes} squares", large.len());
-    println!("  {time:.0}, {:.0}", time_of_check(&large));
-    let largest = largest::answer();
-    let nodes = largest.lines().count() - 17;
-    println!("checking an answer of {} bytes with {nodes} squares, ms", largest.len());
-    println!("  {:.0}", time_of_check(&largest));
+}
+
+/// A made instance text with each point line changed by its number.
+fn changed(made: &str, change: impl Fn(usize, &str) -> String) -> String {
+    let mut count = 0;
+    let mut text = String::new();
+    for line in made.lines() {
+        if line.starts_with("point ") {
+            text += &change(count, line);
+            count += 1;
+        } else {
+            text += line;
+        }
+        text.push('\n');
+    }
+    text
+}
+
+/// Every second point repels.
+fn with_signs(made: &str) -> String {
+    changed(made, |k, line| {
+        let (place, weight) = line.rsplit_once(' ').unwrap();
+        format!("{place} {}{weight}", if k % 2 == 1 { "-" } else { "" })
+    })
+}
+
+/// The points have cutoffs of 10,000 to 71,425 lengths, in an extent of 100,000.
+fn with_cutoffs(made: &str) -> String {
+    changed(made, |k, line| format!("{line} {}", 10_000 + 15 * k)).replacen("siting 1", "siting 2", 1)
+}
+
+/// An instance with as many points, polygons and vertices as may be. All 8,192 vertices are permitted.
+fn fullest() -> String {
+    let mut numbers = Numbers::new();
+    let mut coordinate = || (numbers.next() % 2_000_001) as i64 - 1_000_000;
+    let mut text = String::from("siting 1\nkind sum\n");
+    for k in 0..4096 {
+        writeln!(text, "point {} {} {}", coordinate(), coordinate(), 1 + k % 3906).unwrap();
+    }
+    let rings = |radius: i64| -> Vec<Polygon> {
+        let middle = |k: i64| 240_000 * k - 840_000;
+        (0..64).map(|k| Polygon::round(middle(k % 8), middle(k / 8), radius)).collect()
+    };
+    text + &polygon_lines("permit", &rings(110_000)) + &polygon_lines("forbid", &rings(60_000)) + "end\n"
+}
+
+fn cases() -> Vec<Case> {
+    let (made, _) = run(&["make", "seed=7", "points=4096"], b"");
+    let case = |name, words, text| Case { name, words, text, has_reference: true };
+    let without = |name, words, text| Case { has_reference: false, ..case(name, words, text) };
+    vec![
+        case("4,096 made points", &[], made.clone()),
+        case("gap=0 budget=20000", &["gap=0", "budget=20000"], made.clone()),
+        case("kind max", &[], made.replacen("kind sum", "kind max", 1)),
+        case("half repel, budget=10000", &["budget=10000"], with_signs(&made)),
+        case("cutoffs", &[], with_cutoffs(&made)),
+        without("every limit, budget=2000", &["budget=2000"], fullest()),
+        without("one town", &["gap=0", "budget=1000000", "pool=1000000"], SLANT.to_string()),
+    ]
+}
+
+/// What an answer says of its solve.
+fn outcome_of(answer: &str) -> Outcome {
+    let head = |word: &str| numbers_of(answer, word);
+    let nodes = answer.lines().skip_while(|line| !line.starts_with("root ")).count() - 2;
+    let cost = head("cost");
+    Outcome { cost: (cost[0], cost[1]), bound: head("bound")[0], leases: head("leases")[0] as usize, squares: nodes }
+}
+
+/// The best time of each column, in milliseconds.
+fn best(rounds: &[Vec<f64>]) -> Vec<f64> {
+    (0..rounds[0].len()).map(|k| rounds.iter().map(|round| round[k]).fold(f64::MAX, f64::min)).collect()
+}
+
+/// The times of the programs at these paths, in milliseconds. All write the same, which is returned.
+fn run_all(programs: &[String], words: &[&str], input: &str) -> (String, Vec<f64>) {
+    let mut runs: Vec<_> = programs.iter().map(|path| run_at(path, words, input.as_bytes())).collect();
+    assert!(runs.iter().all(|it| it.0 == runs[0].0), "both programs write the same for {words:?}");
+    let times = runs.iter().map(|it| it.1).collect();
+    (runs.swap_remove(0).0, times)
+}
+
+/// The best times of the programs' checks of an answer, in milliseconds. All accept it.
+fn checks(programs: &[String], answer: &str) -> Vec<f64> {
+    let round = |_| {
+        let (said, times) = run_all(programs, &["check"], answer);
+        assert_eq!(said, "accepted\n");
+        times
+    };
+    best(&(0..ROUNDS).map(round).collect::<Vec<_>>())
+}
+
+/// The best times of the programs' solves, and then of those in ordinary Rust, in milliseconds, and the answer.
+fn solves(programs: &[String], case: &Case) -> (String, Vec<f64>) {
+    let words = [&["solve"], case.words].concat();
+    let mut answer = String::new();
+    let round = |_| {
+        let (said, mut times) = run_all(programs, &words, &case.text);
+        if case.has_reference {
+            for (outcome, time) in [case.reference::<StdRoots>(), case.reference::<EstimatedRoots>()] {
+                assert_eq!(outcome, outcome_of(&said), "{}", case.name);
+                times.push(time);
+            }
+        }
+        answer = said;
+        times
+    };
+    let times = best(&(0..ROUNDS).map(round).collect::<Vec<_>>());
+    (answer, times)
+}
+
+/// The times of programs, and where there are two of them how many times the first one's the second takes.
+fn columns(times: &[f64]) -> Vec<String> {
+    let mut columns: Vec<_> = times.iter().map(|time| format!("{time:.0}")).collect();
+    if let [before, after] = times {
+        columns.push(format!("{:.2}", after / before));
+    }
+    columns
+}
+
+fn print_row(name: &str, columns: &[String]) {
+    println!("| {name} | {} |", columns.join(" | "));
+}
+
+/// Prints the times.
+pub fn measure() {
+    let programs: Vec<_> = std::env::var("BSSS_BEFORE").into_iter().chain([PROGRAM.to_string()]).collect();
+    let count = programs.len();
+    let titles = |what: &str| match count {
+        1 => vec![what.to_string()],
+        _ => vec![format!("{what} before"), format!("{what} after"), "after / before".to_string()],
+    };
+    println!("whole solves and checks, ms: the program, and ordinary Rust by u128::isqrt and by the same estimate of roots");
+    let references = ["by isqrt", "program / isqrt", "by estimate", "program / estimate"].map(String::from);
+    let head = [titles("solve"), references.to_vec(), titles("check")].concat();
+    print_row("", &head);
+    print_row("---", &vec!["---".to_string(); head.len()]);
+    for case in cases() {
+        let (answer, times) = solves(&programs, &case);
+        let ours = times[count - 1];
+        let beside = |time: &f64| [format!("{time:.0}"), format!("{:.2}", ours / time)];
+        let references: Vec<_> = times[count..].iter().flat_map(beside).chain(vec![String::new(); 4]).take(4).collect();
+        let Outcome { leases, squares, .. } = outcome_of(&answer);
+        let name = format!("{} ({leases} leases, {squares} squares)", case.name);
+        print_row(&name, &[columns(&times[..count]), references, columns(&checks(&programs, &answer))].concat());
+    }
+    let answer = largest::answer();
+    let blank = vec![String::new(); head.len() - titles("check").len()];
+    let name = format!("the largest answer, of {} bytes ({} squares)", answer.len(), outcome_of(&answer).squares);
+    print_row(&name, &[blank, columns(&checks(&programs, &answer))].concat());
 }

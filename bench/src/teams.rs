@@ -2,7 +2,7 @@
 //! written.
 
 use crate::largest;
-use crate::solving::{PROGRAM, SLANT, run};
+use crate::program::{PROGRAM, SLANT, run};
 use std::io::Write;
 use std::process::{Command, Stdio};
 use std::time::Instant;

@@ -1,4 +1,5 @@
 pub mod Head
 pub mod HeadFields
+pub mod Leaf
 pub mod Nodes
 pub mod Tally

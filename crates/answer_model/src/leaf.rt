@@ -3,6 +3,7 @@
 ghost use Rattle.std.specs.Prelude.{◌≡◌, false};
 ghost use Rattle.siting_definitions.specs.Answer.{IsMark};
 ghost use Rattle.siting_definitions.specs.Marks as marks;
+ghost use Rattle.answer_model.specs.Leaf as leaves;
 
 use dyadic_square::Square;
 use exclusion::excluded;
@@ -19,13 +20,23 @@ pub fn leaf_mark(instance: &Instance, gap: i64, least: Option<i64>, square: Squa
     ensures range { IsMark result }
 {
     if excluded(instance, square) {
-        return Mark::Shut;
+        Mark::Shut
+    } else {
+        mark_by_bound(gap, least, square.level, fine(instance, square))
     }
-    let bound = fine(instance, square);
+}
+
+/// The finished mark of a leaf that isn't excluded, by its level and its fine bound, for the gap
+/// and the least upper cost, if there is one, all three in cost units.
+pub fn mark_by_bound(gap: i64, least: Option<i64>, level: u8, bound: i64) -> Mark
+    ensures value { result ≡ leaves.mark_by_bound gap least level bound }
+    ensures leaf { marks.is_split result ≡ false }
+    ensures range { IsMark result }
+{
     if reaches(least, bound, gap) {
         return Mark::Bounded(bound);
     }
-    if square.level == 0 {
+    if level == 0 {
         Mark::Floor(bound)
     } else {
         Mark::Left(bound)

@@ -10,6 +10,6 @@ mod tests;
 
 pub use head::Head;
 pub use laws::{a_valid_answer_claims, a_valid_answer_has_its_nodes};
-pub use leaf::leaf_mark;
+pub use leaf::{leaf_mark, mark_by_bound};
 pub use siting_definitions::Word;
 pub use tally::{Tally, is_split, tallies_join};

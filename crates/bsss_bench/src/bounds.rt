@@ -7,12 +7,13 @@ use centre_bound::centre_bound;
 use convex_region::Polygon;
 use dyadic_square::Square;
 use exact_geometry::Place;
-use objectives::{coarse, cost_of, fine};
+use objectives::{coarse, coarse_and_fine, cost_of, fine, fine_and_upper, upper_cost};
 use site_model::{DemandPt, Instance, Kind, Site};
 use siting_definitions::POINT_LIMIT;
 use std::alloc::Global;
 
-/// A demand point with a weight of at most 3,906 in size, so that 4,096 of them make an instance. A cutoff of 0 is none.
+/// A demand point with a weight of at most 3,906 in size, so that 4,096 of them make an instance. A
+/// cutoff of 0 is none.
 #[repr(C)]
 #[derive(Clone, Copy)]
 pub struct PointRow {
@@ -44,11 +45,22 @@ enum Measure {
     CoarseBound,
     FineBound,
     CentreBound,
-    /// The lower cost of the lower left corner.
-    LowerCost,
+    /// The upper cost of the lower left corner.
+    UpperCost,
 }
 
-/// Writes the coarse bound of each square, and answers whether the rows make an instance and squares.
+/// Which two numbers are computed of each square, in one pass over the points.
+#[derive(Clone, Copy)]
+enum Pair {
+    CoarseAndFineBound,
+    /// The fine bound, and the upper cost of the lower left corner.
+    FineBoundAndUpperCost,
+    /// The lower and the upper cost of the lower left corner.
+    BothCosts,
+}
+
+/// Writes the coarse bound of each square, and answers whether the rows make an instance and
+/// squares.
 #[unsafe(no_mangle)]
 pub extern "C" fn bsss_bench_coarse(
     alloc: Global,
@@ -70,7 +82,8 @@ pub extern "C" fn bsss_bench_fine(
     write_values(alloc, Measure::FineBound, points, squares, bounds)
 }
 
-/// Writes the centre bound of each square, and answers whether the rows make an instance and squares.
+/// Writes the centre bound of each square, and answers whether the rows make an instance and
+/// squares.
 #[unsafe(no_mangle)]
 pub extern "C" fn bsss_bench_centre(
     alloc: Global,
@@ -81,16 +94,69 @@ pub extern "C" fn bsss_bench_centre(
     write_values(alloc, Measure::CentreBound, points, squares, bounds)
 }
 
-/// Writes the lower cost of the lower left corner of each square, and answers whether the rows make an instance and
-/// squares.
+/// Writes the upper cost of the lower left corner of each square, and answers whether the rows make
+/// an instance and squares.
 #[unsafe(no_mangle)]
-pub extern "C" fn bsss_bench_cost(
+pub extern "C" fn bsss_bench_upper(
     alloc: Global,
     points: &[PointRow],
     squares: &[SquareRow],
     costs: &mut [i64],
 ) -> bool {
-    write_values(alloc, Measure::LowerCost, points, squares, costs)
+    write_values(alloc, Measure::UpperCost, points, squares, costs)
+}
+
+/// Writes the coarse and the fine bound of each square, and answers whether the rows make an
+/// instance and squares.
+#[unsafe(no_mangle)]
+pub extern "C" fn bsss_bench_coarse_and_fine(
+    alloc: Global,
+    points: &[PointRow],
+    squares: &[SquareRow],
+    coarse: &mut [i64],
+    fine: &mut [i64],
+) -> bool {
+    write_pairs(
+        alloc,
+        Pair::CoarseAndFineBound,
+        points,
+        squares,
+        coarse,
+        fine,
+    )
+}
+
+/// Writes the fine bound of each square and the upper cost of its lower left corner, and answers
+/// whether the rows make an instance and squares.
+#[unsafe(no_mangle)]
+pub extern "C" fn bsss_bench_fine_and_upper(
+    alloc: Global,
+    points: &[PointRow],
+    squares: &[SquareRow],
+    fine: &mut [i64],
+    upper: &mut [i64],
+) -> bool {
+    write_pairs(
+        alloc,
+        Pair::FineBoundAndUpperCost,
+        points,
+        squares,
+        fine,
+        upper,
+    )
+}
+
+/// Writes the lower and the upper cost of the lower left corner of each square, and answers whether
+/// the rows make an instance and squares.
+#[unsafe(no_mangle)]
+pub extern "C" fn bsss_bench_costs(
+    alloc: Global,
+    points: &[PointRow],
+    squares: &[SquareRow],
+    lower: &mut [i64],
+    upper: &mut [i64],
+) -> bool {
+    write_pairs(alloc, Pair::BothCosts, points, squares, lower, upper)
 }
 
 /// Writes this measure of each square, and answers whether the rows make an instance and squares.
@@ -119,8 +185,46 @@ fn value_of(measure: Measure, instance: &Instance, square: Square) -> i64 {
         Measure::CoarseBound => coarse(instance, square),
         Measure::FineBound => fine(instance, square),
         Measure::CentreBound => centre_bound(instance, square),
-        Measure::LowerCost => cost_of(instance, Site::of(square.x, square.y)).0,
+        Measure::UpperCost => upper_cost(instance, corner_of(square)),
     }
+}
+
+/// Writes this pair of each square, and answers whether the rows make an instance and squares.
+fn write_pairs(
+    alloc: Global,
+    pair: Pair,
+    points: &[PointRow],
+    squares: &[SquareRow],
+    firsts: &mut [i64],
+    seconds: &mut [i64],
+) -> bool {
+    let Some(instance) = instance_of(alloc, points) else {
+        return false;
+    };
+    let values = firsts.iter_mut().zip(seconds.iter_mut());
+    for (row, (first, second)) in squares.iter().zip(values) {
+        let Some(square) = square_of(*row) else {
+            return false;
+        };
+        let (one, other) = pair_of(pair, &instance, square);
+        *first = one;
+        *second = other;
+    }
+    true
+}
+
+/// The pair of a square, in cost units.
+fn pair_of(pair: Pair, instance: &Instance, square: Square) -> (i64, i64) {
+    match pair {
+        Pair::CoarseAndFineBound => coarse_and_fine(instance, square),
+        Pair::FineBoundAndUpperCost => fine_and_upper(instance, square, corner_of(square)),
+        Pair::BothCosts => cost_of(instance, corner_of(square)),
+    }
+}
+
+/// The lower left corner of a square.
+fn corner_of(square: Square) -> Site {
+    Site::of(square.x, square.y)
 }
 
 pub(crate) fn square_of(row: SquareRow) -> Option<Square> {

@@ -5,8 +5,8 @@ use exclusion::excluded;
 use instance_text::read_instance;
 use std::alloc::Global;
 
-/// Writes for each square 1 where it is excluded in the instance that the text says, and else 0, and answers whether the
-/// text says an instance and the rows are squares.
+/// Writes for each square 1 where it is excluded in the instance that the text says, and else 0,
+/// and answers whether the text says an instance and the rows are squares.
 #[unsafe(no_mangle)]
 pub extern "C" fn bsss_bench_excluded(
     alloc: Global,

@@ -22,8 +22,8 @@ fn log_of(alloc: Global, squares: &[SquareRow]) -> Option<Log> {
     Some(log)
 }
 
-/// Logs the squares as nodes, and answers whether there was memory and the rows are squares. It writes them as they came. What
-/// `bsss_bench_preorder` takes longer is the sort.
+/// Logs the squares as nodes, and answers whether there was memory and the rows are squares. It
+/// writes them as they came. What `bsss_bench_preorder` takes longer is the sort.
 #[unsafe(no_mangle)]
 pub extern "C" fn bsss_bench_log(
     alloc: Global,
@@ -37,8 +37,9 @@ pub extern "C" fn bsss_bench_log(
     log.is_some()
 }
 
-/// Logs the squares as nodes, sorts them by their place in the tree of the first one, and answers whether there was memory and
-/// the rows are squares. It writes the lower left corners as they stand then.
+/// Logs the squares as nodes, sorts them by their place in the tree of the first one, and answers
+/// whether there was memory and the rows are squares. It writes the lower left corners as they
+/// stand then.
 #[unsafe(no_mangle)]
 pub extern "C" fn bsss_bench_preorder(
     alloc: Global,

@@ -1,22 +1,25 @@
 -- What a check says of the bytes that its source told, and of some bytes where it told none.
-use Rattle.std.proofs.Common.{◌≡◌, ◌≢◌, ℕ, Bool, true, false, List, [], Option, None, Some, IfSome, Result, Ok, Err, ⊎_elim, refl, sym, ap, subst, ◌∙◌, append-nil}
+use Rattle.std.proofs.Common.{◌≡◌, ◌≢◌, ℕ, ◌≤◌, Bool, true, false, cond, List, [], Option, None, Some, IfSome, Result, Ok, Err, ⊎_elim, refl, sym, ap, subst, ◌∙◌, append-nil}
+use Rattle.std.specs.Prelude.{IsErrOf, IsTrue, ⊤}
+use Rattle.std.proofs.lemmas.Bool.{false≢true}
+use Rattle.port_io.specs.Faults.{Rose}
 use Rattle.cert_checker.specs.declared.checking.Accepted.{Accepted as Said}
 use Rattle.cert_checker.specs.declared.faults.CheckFault.{CheckFault}
 use Rattle.cert_checker.specs.declared.faults.CheckError.{CheckError}
 use Rattle.cert_checker.specs.declared.faults.CheckError.TheVariants as errors
 use Rattle.cert_checker.specs.Checking.{checking}
-use Rattle.cert_checker.specs.CheckReading.{CheckRead, IsNeededSoFar, IsSettled, SaysOf}
-use Rattle.pair_check.specs.BatchReading.{BatchesRead}
-use Rattle.cert_checker.specs.Steps.{ChecksTo, RejectsAs}
+use Rattle.cert_checker.specs.CheckReading.{CheckRead, IsNeededSoFar, IsSettled, UnlessCheckReadFault}
+use Rattle.pair_check.specs.BatchReading.{BatchesRead, UnlessFault}
+use Rattle.cert_checker.specs.Steps.{ChecksTo}
 use Rattle.cert_checker.proofs.ValidLemmas.{accepted-valid, valid-accepted}
 use Rattle.answer_model.proofs.ClaimsLemmas.{claims}
 use Rattle.bsss_cli.specs.declared.status.Status.{Status}
 use Rattle.bsss_cli.specs.declared.status.Status.TheVariants.{Accepted, Rejected, TooLong, ReadFault, NoMemory}
 use Rattle.bsss_cli.specs.Status.{Nothing, meaning_of}
-use Rattle.bsss_cli.specs.Ports.{SinkGhosts, TellsOfReads}
-use Rattle.bsss_cli.specs.Outcome.{OfBytes, HasRead, Says}
-use Rattle.bsss_cli.specs.Check.{IsAccepted, CheckAnswers, CheckStops, CheckWants, check}
-use Rattle.bsss_cli.proofs.OutcomeLemmas.{ok≢err}
+use Rattle.bsss_cli.specs.Ports.{SourceGhosts, SinkGhosts, TellsOfReads}
+use Rattle.bsss_cli.specs.Outcome.{OfBytes, HasRead, Ran, Says}
+use Rattle.bsss_cli.specs.Check.{IsAccepted, CheckAnswers, CheckStops, CheckWants, SaysVerdict, check}
+use Rattle.bsss_cli.proofs.OutcomeLemmas.{ok≢err, Says-something, Ran-says, Ran-read_fault, Ran-no_memory}
 
 accepted-claims : (bytes : List ℕ) (x : Said) → checking bytes ≡ Ok x → IsAccepted bytes
 accepted-claims bytes x said =
@@ -29,14 +32,14 @@ accepted-claims bytes x said =
     }
 
 -- the bytes that a check accepts are the text of a valid answer
-pub accepts : (told left : Option (List ℕ)) (x : Said)
+accepts : (told left : Option (List ℕ)) (x : Said)
     → IfSome told (λ bytes. ChecksTo (checking bytes) left (Ok x)) → BatchesRead told left (Ok x)
     → OfBytes told IsAccepted
 accepts None left x h read = (read.got, accepted-claims read.got x read.says.0)
 accepts (Some bytes) left x h read = accepted-claims bytes x h.0
 
 -- and then nothing is left
-pub read_to_end : (told left : Option (List ℕ)) (x : Said)
+read_to_end : (told left : Option (List ℕ)) (x : Said)
     → IfSome told (λ bytes. ChecksTo (checking bytes) left (Ok x))
     → IfSome told (λ bytes. left ≡ Some [])
 read_to_end None left x h = tt
@@ -47,26 +50,20 @@ settled_says : (got : List ℕ) (answer : Result Said CheckError) → IsSettled 
     → checking got ≡ answer
 settled_says got answer settled = ap checking (sym (append-nil got)) ∙ settled []
 
-pub fault_said : (told left : Option (List ℕ)) (error : CheckError) (fault : CheckFault)
-    → error ≡ errors.Fault fault
-    → IfSome told (λ bytes. ChecksTo (checking bytes) left (Err error))
-    → BatchesRead told left (Err error)
+fault_said : (told left : Option (List ℕ)) (fault : CheckFault)
+    → IfSome told (λ bytes. ChecksTo (checking bytes) left (Err (errors.Fault fault)))
+    → BatchesRead told left (Err (errors.Fault fault))
     → OfBytes told (λ bytes. checking bytes ≡ Err (errors.Fault fault))
-fault_said None left error fault e h read =
-    let says = subst (λ (x : CheckError). SaysOf None left read.got (Err x)) e read.says in
-    (read.got, ⊎_elim (λ s. settled_says read.got _ s) (λ s. s.0) says)
-fault_said (Some bytes) left error fault e h read =
-    subst (λ (x : CheckError). RejectsAs (checking bytes) x) e h
+fault_said None left fault h read =
+    (read.got, ⊎_elim (λ s. settled_says read.got _ s) (λ s. s.0) read.says)
+fault_said (Some bytes) left fault h read = h
 
-pub too_long_said : (told left : Option (List ℕ)) (error : CheckError) → error ≡ errors.TooLong
-    → IfSome told (λ bytes. ChecksTo (checking bytes) left (Err error))
-    → BatchesRead told left (Err error)
+too_long_said : (told left : Option (List ℕ))
+    → IfSome told (λ bytes. ChecksTo (checking bytes) left (Err errors.TooLong))
+    → BatchesRead told left (Err errors.TooLong)
     → OfBytes told (λ bytes. checking bytes ≡ Err errors.TooLong)
-too_long_said None left error e h read =
-    let says = subst (λ (x : CheckError). SaysOf None left read.got (Err x)) e read.says in
-    (read.got, settled_says read.got _ says)
-too_long_said (Some bytes) left error e h read =
-    subst (λ (x : CheckError). RejectsAs (checking bytes) x) e h
+too_long_said None left h read = (read.got, settled_says read.got _ read.says)
+too_long_said (Some bytes) left h read = h
 
 -- ---- how far a check reads
 -- what was read by one worker settles the answer, as what was read by a team does
@@ -108,33 +105,101 @@ read_ahead (Some bytes) left r status something read = record {
   stops = ahead-stops read.got status something;
 }
 
+-- where a verdict tells of reads: a team may have read on after a fault
+abbrev pub Tells : (team : Bool) → Result Said CheckError → Type 0 → Type 0
+Tells team (Ok said) quiet = quiet
+Tells team (Err (errors.Fault fault)) quiet = cond team ⊤ quiet
+Tells team (Err errors.TooLong) quiet = quiet
+Tells team (Err errors.ReadFault) quiet = ⊤
+Tells team (Err errors.NoMemory) quiet = quiet
+
+pub heard_of_one : (quiet : Type 0) (verdict : Result Said CheckError)
+    → UnlessCheckReadFault verdict quiet → Tells false verdict quiet
+heard_of_one quiet (Ok said) h = h
+heard_of_one quiet (Err (errors.Fault fault)) h = h
+heard_of_one quiet (Err errors.TooLong) h = h
+heard_of_one quiet (Err errors.ReadFault) h = tt
+heard_of_one quiet (Err errors.NoMemory) h = h
+
+pub heard_of_team : (quiet : Type 0) (verdict : Result Said CheckError)
+    → UnlessFault verdict quiet → Tells true verdict quiet
+heard_of_team quiet (Ok said) h = h
+heard_of_team quiet (Err (errors.Fault fault)) h = tt
+heard_of_team quiet (Err errors.TooLong) h = h
+heard_of_team quiet (Err errors.ReadFault) h = tt
+heard_of_team quiet (Err errors.NoMemory) h = h
+
 -- a rejection that was said, or could not be said, tells nothing of a team's reads
-pub tells_nothing : {K : Type 0} {k : SinkGhosts K} {before after : K} {text : List ℕ}
-    {status : Status} (fault : CheckFault) → Says k before after (Rejected fault) text status
-    → TellsOfReads true status → ⊥
-tells_nothing fault said h =
-    let Tells : Status → Type 0 = λ s. TellsOfReads true s in
-    ⊎_elim (λ all. subst Tells all.0 h) (λ cut. subst Tells cut.0 h) said.outcome
+rejection_tells : {K : Type 0} {k : SinkGhosts K} {before after : K} {text : List ℕ}
+    {status : Status} {fault : CheckFault} (quiet : Type 0) (team : Bool)
+    → Says k before after (Rejected fault) text status → TellsOfReads team status
+    → Tells team (Err (errors.Fault fault)) quiet → quiet
+rejection_tells quiet false said h tells = tells
+rejection_tells {status = status} quiet true said h tells =
+    let Told : Status → Type 0 = λ s. TellsOfReads true s in
+    absurd (⊎_elim (λ all. subst Told all.0 h) (λ cut. subst Told cut.0 h) said.outcome)
 
-pub read_before_fault : (team : Bool) (told left : Option (List ℕ)) (error : CheckError)
-    → error ≡ errors.ReadFault → BatchesRead told left (Err error)
+read_before_fault : (team : Bool) (told left : Option (List ℕ))
+    → BatchesRead told left (Err errors.ReadFault)
     → IfSome told (λ bytes. HasRead (check team) told left ReadFault)
-read_before_fault team None left error e read = tt
-read_before_fault team (Some bytes) left error e read = record {
-  got = read.got;
-  consumed = read.consumes;
-  stops = subst (λ (x : CheckError). SaysOf (Some bytes) left read.got (Err x)) e read.says;
-}
+read_before_fault team None left read = tt
+read_before_fault team (Some bytes) left read =
+    record { got = read.got; consumed = read.consumes; stops = read.says }
 
-pub read_of_head : (team : Bool) (told left : Option (List ℕ)) (error : CheckError)
-    → error ≡ errors.NoMemory → BatchesRead told left (Err error)
+read_of_head : (team : Bool) (told left : Option (List ℕ))
+    → BatchesRead told left (Err errors.NoMemory)
     → IfSome told (λ bytes. HasRead (check team) told left NoMemory)
-read_of_head team None left error e read = tt
-read_of_head team (Some bytes) left error e read = record {
-  got = read.got;
-  consumed = read.consumes;
-  stops = subst (λ (x : CheckError). SaysOf (Some bytes) left read.got (Err x)) e read.says;
-}
+read_of_head team None left read = tt
+read_of_head team (Some bytes) left read =
+    record { got = read.got; consumed = read.consumes; stops = read.says }
+
+-- ---- a run with a check
+-- what a check by one worker, or by a team, tells of its source
+pub record IsChecked {S : Type 0} (team : Bool) (s : SourceGhosts S) (old new : S)
+    (verdict : Result Said CheckError) : Type 0 where
+  pub answers : IfSome (s.left old) (λ bytes. ChecksTo (checking bytes) (s.left new) verdict)
+  pub read_fault : IsErrOf verdict errors.ReadFault → Rose (s.faults old) (s.faults new)
+  pub read : BatchesRead (s.left old) (s.left new) verdict
+  pub stops : (status : Status) → (meaning_of status).taken ≢ Nothing
+      → IfSome (s.left old) (λ bytes. HasRead (check team) (s.left old) (s.left new) status)
+  pub later : s.faults old ≤ s.faults new
+  pub heard : IsTrue s.is_strict → Tells team verdict (s.faults new ≡ s.faults old)
+
+-- a run that says the verdict is that of the command
+pub Ran-checked : {S K : Type 0} {s : SourceGhosts S} {k : SinkGhosts K} {before after : K}
+    (team : Bool) (old new : S) (verdict : Result Said CheckError) (status : Status)
+    → IsChecked team s old new verdict → SaysVerdict k before after verdict status
+    → Ran s k (check team) old new before after status
+Ran-checked {s = s} team old new (Ok said) status h says =
+    Ran-says {says = Accepted} (check team) old new refl
+    (record { later = h.later; heard = λ strict e. h.heard strict })
+    refl (λ e. read_to_end (s.left old) (s.left new) said h.answers)
+    (h.stops status (Says-something refl says))
+    (refl, accepts (s.left old) (s.left new) said h.answers h.read) says
+Ran-checked {s = s} team old new (Err (errors.Fault fault)) status h says =
+    Ran-says {says = Rejected fault} (check team) old new refl
+    (record { later = h.later; heard = λ strict e. rejection_tells _ team says e (h.heard strict) })
+    refl (λ e. absurd (false≢true e))
+    (h.stops status (Says-something refl says))
+    (refl, fault_said (s.left old) (s.left new) fault h.answers h.read)
+    says
+Ran-checked {s = s} team old new (Err errors.TooLong) status h says =
+    Ran-says {says = TooLong} (check team) old new refl
+    (record { later = h.later; heard = λ strict e. h.heard strict })
+    refl (λ e. absurd (false≢true e))
+    (h.stops status (Says-something refl says))
+    (refl, too_long_said (s.left old) (s.left new) h.answers h.read) says
+Ran-checked {s = s} {k = k} {before = before} team old new (Err errors.ReadFault) status h says =
+    rw (says.0, says.1)
+    (Ran-read_fault (check team) old new before refl
+    (record { later = h.later; heard = λ strict none. absurd none })
+    (h.read_fault refl)
+    (read_before_fault team (s.left old) (s.left new) h.read))
+Ran-checked {s = s} {k = k} {before = before} team old new (Err errors.NoMemory) status h says =
+    rw (says.0, says.1)
+    (Ran-no_memory (check team) old new before refl refl
+    (record { later = h.later; heard = λ strict e. h.heard strict })
+    (read_of_head team (s.left old) (s.left new) h.read))
 
 -- ---- what a check must answer
 is_accepted : (bytes : List ℕ) (status : Status) (text : List ℕ) (x : Said)

@@ -15,7 +15,7 @@ use Rattle.cert_checker.specs.Checking.{checking}
 use Rattle.cert_checker.proofs.ValidLemmas.{valid-accepted}
 use Rattle.resume_job.specs.declared.loading.LoadError.{LoadError}
 use Rattle.resume_job.specs.declared.loading.LoadError.TheVariants.{TooLong as LoadTooLong, Check}
-use Rattle.resume_job.specs.Loading.{IsOfSome, LoadsTo, LoadStopsWithin, load_limit}
+use Rattle.resume_job.specs.Loading.{IsOfSome, LoadsTo, LoadReadsAtMost, load_limit}
 use Rattle.bsss_cli.specs.declared.status.Status.{Status}
 use Rattle.bsss_cli.specs.declared.status.Status.TheVariants.{Rejected, TooLong, NoMemory}
 use Rattle.bsss_cli.specs.Status.{Whole, meaning_of, code_of}
@@ -108,14 +108,14 @@ loads_too_long (Some bytes) left error e loads =
 pub refused_read : (told left : Option (List ℕ)) (error : LoadError) (status : Status)
     → IfSome told (λ xs. HasRest xs left)
     → IfSome told (λ xs. IfSome left
-    (λ ys. LoadStopsWithin {T = Head × List Node} (length xs - length ys) (Err error)))
+    (λ ys. LoadReadsAtMost {T = Head × List Node} (length xs - length ys) (Err error)))
     → IfSome told (λ bytes. (fault : CheckFault) → status ≡ Rejected fault → left ≡ Some [])
-    → ((got : List ℕ) → LoadStopsWithin {T = Head × List Node} (length got) (Err error)
+    → ((got : List ℕ) → LoadReadsAtMost {T = Head × List Node} (length got) (Err error)
     → ReadsWithin load_limit got status)
     → IfSome told (λ bytes. HasRead loading told left status)
 refused_read None left error status rest stop all within = tt
 refused_read (Some bytes) left error status rest stop all within =
-    has_read loading (λ n. LoadStopsWithin {T = Head × List Node} n (Err error)) (Some bytes) left
+    has_read loading (λ n. LoadReadsAtMost {T = Head × List Node} n (Err error)) (Some bytes) left
     status rest stop (λ got s. record { within = within got s; all = all })
 
 -- for each source that tells

@@ -9,7 +9,7 @@ use Rattle.port_io.specs.Bytes.{Took, TookFront}
 use Rattle.port_io.specs.Output.{SinkView, Wrote}
 use Rattle.bsss_cli.specs.declared.status.Status.{Status}
 use Rattle.bsss_cli.specs.declared.status.Status.TheVariants.{ReadFault, WriteFault, NoMemory}
-use Rattle.bsss_cli.specs.Status.{Extent, Whole, Front, Nothing, meaning_of, code_of, HasReadAll, status_of, reported}
+use Rattle.bsss_cli.specs.Status.{Portion, Whole, Front, Nothing, meaning_of, code_of, HasReadAll, status_of, reported}
 use Rattle.bsss_cli.specs.Ports.{SourceGhosts, SinkGhosts, view, KeepsSource, KeepsSink}
 use Rattle.bsss_cli.specs.Outcome.{Promise, refusal, Writes, WritesSo, Completes, HasRead, Says, Ended, Ran}
 
@@ -95,7 +95,7 @@ Ended-whole : {K : Type 0} (k : SinkGhosts K) (p : Promise) (told : Option (List
     → Ended k p told before after says
 Ended-whole k p told before after says text whole answers took kept =
     record {
-      written = subst (λ (t : Extent). WritesSo t p told (view k before) (view k after) says)
+      written = subst (λ (t : Portion). WritesSo t p told (view k before) (view k after) says)
           (sym whole) (record { text = text; answers = answers; took = took });
       unwritten = λ e. absurd (nothing≢whole (sym e ∙ whole));
       write_fault = λ e. absurd (front≢whole (whole_is says WriteFault whole e));
@@ -155,19 +155,19 @@ pub Writes-map : (p q : Promise) (told others : Option (List ℕ)) (before after
     (status : Status)
     → ((s : Status) (text : List ℕ) → p.answers told s text → q.answers others s text)
     → Writes p told before after status → Writes q others before after status
-Writes-map p q told others before after status allows = by_extent (meaning_of status).taken
+Writes-map p q told others before after status allows = by_portion (meaning_of status).taken
   where
-    by_extent : (t : Extent) → WritesSo t p told before after status
+    by_portion : (t : Portion) → WritesSo t p told before after status
         → WritesSo t q others before after status
-    by_extent Whole h =
+    by_portion Whole h =
         record { text = h.text; answers = allows status h.text h.answers; took = h.took }
-    by_extent Front h = record {
+    by_portion Front h = record {
       status = h.status;
       text = h.text;
       answers = allows h.status h.text h.answers;
       took = h.took;
     }
-    by_extent Nothing h = h
+    by_portion Nothing h = h
 
 -- ---- what a run does
 -- a command that doesn't read leaves its source as it was
@@ -287,10 +287,10 @@ ok≢err (Err y) x e h k = grind (arith)
 pub Completes-writes : (p : Promise) (told : Option (List ℕ)) (before after : SinkView)
     (status : Status) → ((text : List ℕ) → p.answers told status text → p.wanted told status)
     → Writes p told before after status → Completes p told status
-Completes-writes p told before after status wants h = by_extent (meaning_of status).taken refl h
+Completes-writes p told before after status wants h = by_portion (meaning_of status).taken refl h
   where
-    by_extent : (t : Extent) → (meaning_of status).taken ≡ t
+    by_portion : (t : Portion) → (meaning_of status).taken ≡ t
         → WritesSo t p told before after status → Completes p told status
-    by_extent Whole e h = inl (wants h.text h.answers)
-    by_extent Front e h = inr (λ whole. front≢whole (sym e ∙ whole))
-    by_extent Nothing e h = inr (λ whole. nothing≢whole (sym e ∙ whole))
+    by_portion Whole e h = inl (wants h.text h.answers)
+    by_portion Front e h = inr (λ whole. front≢whole (sym e ∙ whole))
+    by_portion Nothing e h = inr (λ whole. nothing≢whole (sym e ∙ whole))

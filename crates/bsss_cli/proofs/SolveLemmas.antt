@@ -22,7 +22,7 @@ use Rattle.bsss_cli.specs.Status.{meaning_of, IsAnswer, status_of}
 use Rattle.bsss_cli.specs.Ports.{SourceGhosts, SinkGhosts}
 use Rattle.bsss_cli.specs.Outcome.{OfBytes, Says, Ended, Ran}
 use Rattle.bsss_cli.specs.Solve.{job_to, IsAnswerTo, Solves, SolveAnswers, SolveWants, solve}
-use Rattle.bsss_cli.specs.Begun.{IsTextOf, IsBegun}
+use Rattle.bsss_cli.specs.Begun.{SaysInstance, IsBegun}
 use Rattle.bsss_cli.proofs.OutcomeLemmas.{ok≢err, status_of-whole, word_answers, Writes-map, Ran-says, Ran-no_memory}
 use Rattle.bsss_cli.proofs.ReadingLemmas.{OfBytes-map}
 
@@ -99,7 +99,7 @@ solve_says {g = g} {status = status} s old new j first pool best h ns begun fini
     let done = subst (λ (x : Job). Finishes x pool best h ns) begun.job.job_is finishes in
     let answered : IsAnswerTo i s h.word a =
     answers s i pool best h ns begun.job.limits done kept worked in
-    let solves = OfBytes-map (g.left old) (IsTextOf i)
+    let solves = OfBytes-map (g.left old) (SaysInstance i)
     (λ bytes. Solves s bytes h.word (answer_text a))
     (λ bytes t. Solves-answer s bytes i a t.short t.read answered) begun.text in
     Ran-says (solve s) old new refl (begun.source status) (status_of-whole h.word)

@@ -19,7 +19,7 @@ pub record IsJob (s : Settings) (i : Instance) (j : Job) (pool : State) : Type 0
   pub pool_of : IsPoolOf j pool
 
 -- the bytes say the instance
-pub record IsTextOf (i : Instance) (bytes : List ℕ) : Type 0 where
+pub record SaysInstance (i : Instance) (bytes : List ℕ) : Type 0 where
   pub short : length bytes ≤ instance_limit
   pub read : reading bytes ≡ Ok i
 
@@ -27,7 +27,7 @@ pub record IsTextOf (i : Instance) (bytes : List ℕ) : Type 0 where
 pub record IsBegun {S : Type 0} (g : SourceGhosts S) (s : Settings) (old new : S)
     (j : Job) (pool : State) : Type 0 where
   pub instance : Instance
-  pub text : OfBytes (g.left old) (IsTextOf instance)
+  pub text : OfBytes (g.left old) (SaysInstance instance)
   pub job : IsJob s instance j pool
   pub read : IfSome (g.left old) (λ bytes. g.left new ≡ Some [])
   pub stops : (status : Status)

@@ -1,5 +1,6 @@
 -- What a command answers that loads an answer, where that is not a valid one.
-use Rattle.std.specs.Prelude.{◌≡◌, ℕ, ◌<◌, ◌≤◌, true, false, List, [], length, Option, Some, IfSome, Err, ⊤}
+use Rattle.std.specs.Prelude.{◌≡◌, ℕ, ◌<◌, ◌≤◌, true, false, List, [], length, Option, Some, IfSome}
+use Rattle.std.specs.Prelude.{Err, ⊤}
 use Rattle.std.specs.Io.KnownBytes.{Consumes}
 use Rattle.siting_definitions.specs.AnswerText.{answer_text}
 use Rattle.siting_definitions.specs.Answer.{Head, Answer, IsValid}

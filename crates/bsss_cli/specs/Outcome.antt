@@ -1,12 +1,14 @@
 -- What a run of the program answers, reads and writes, whatever its command.
-use Rattle.std.specs.Prelude.{◌≡◌, ◌≢◌, ◌⊎◌, ℕ, ◌+◌, ◌≤◌, length, Bool, true, false, List, [], Option, Some, None, IfSome, ⊤}
+use Rattle.std.specs.Prelude.{◌≡◌, ◌≢◌, ◌⊎◌, ℕ, ◌+◌, ◌≤◌, length, Bool, true, false, List, []}
+use Rattle.std.specs.Prelude.{Option, Some, None, IfSome, ⊤}
 use Rattle.std.specs.Io.KnownBytes.{Consumes}
 use Rattle.port_io.specs.Faults.{Rose}
-use Rattle.port_io.specs.Bytes.{Took, TookFront}
+use Rattle.port_io.specs.Bytes.{piece_size, Took, TookFront}
 use Rattle.port_io.specs.Output.{SinkView}
 use Rattle.bsss_cli.specs.declared.status.Status.{Status}
 use Rattle.bsss_cli.specs.declared.status.Status.TheVariants.{ReadFault, WriteFault, NoMemory}
-use Rattle.bsss_cli.specs.Status.{Extent, Whole, Front, Nothing, meaning_of, HasReadAll, HasWrittenNothing, IsOutside}
+use Rattle.bsss_cli.specs.Status.{Portion, Whole, Front, Nothing, meaning_of, HasReadAll}
+use Rattle.bsss_cli.specs.Status.{HasWrittenNothing, IsOutside}
 use Rattle.bsss_cli.specs.Ports.{SourceGhosts, SinkGhosts, view, KeepsSource, KeepsSink}
 
 -- What a run with a command promises. Where a source tells its bytes, these are `told`.
@@ -46,7 +48,7 @@ OfBytes (Some bytes) P = P bytes
 abbrev pub ReadsWithin : ℕ → List ℕ → Status → Type 0
 ReadsWithin limit got ReadFault = length got ≤ limit
 ReadsWithin limit got NoMemory = length got ≤ limit
-ReadsWithin limit got status = length got ≤ limit + 4096
+ReadsWithin limit got status = length got ≤ limit + piece_size
 
 -- ---- what was written
 -- the sink took the whole text of an answer
@@ -64,7 +66,7 @@ pub record CutShort (p : Promise) (told : Option (List ℕ)) (before after : Sin
   pub answers : p.answers told status text
   pub took : TookFront before.room before.taken after.taken text
 
-abbrev pub WritesSo : Extent → Promise → Option (List ℕ) → SinkView → SinkView → Status → Type 0
+abbrev pub WritesSo : Portion → Promise → Option (List ℕ) → SinkView → SinkView → Status → Type 0
 WritesSo Whole p told before after status = Finished p told before after status
 WritesSo Front p told before after status = CutShort p told before after
 WritesSo Nothing p told before after status = after.taken ≡ before.taken

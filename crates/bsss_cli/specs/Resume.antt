@@ -1,5 +1,6 @@
 -- What a resumption answers.
-use Rattle.std.specs.Prelude.{◌≡◌, ℕ, ◌<◌, ◌≤◌, true, false, List, Option, IfSome, MatchOption, unwrap_or}
+use Rattle.std.specs.Prelude.{◌≡◌, ℕ, ◌<◌, ◌≤◌, true, false, List, Option, IfSome, MatchOption}
+use Rattle.std.specs.Prelude.{unwrap_or}
 use Rattle.siting_definitions.specs.declared.Word.{Word}
 use Rattle.siting_definitions.specs.AnswerText.{answer_text}
 use Rattle.siting_definitions.specs.Answer.{Answer}

@@ -1,5 +1,6 @@
 -- What a solve answers.
-use Rattle.std.specs.Prelude.{◌≡◌, ℕ, ℤ, ◌<◌, ◌≤◌, true, false, List, length, Option, IfSome, MatchOption, Ok, Err, option_map}
+use Rattle.std.specs.Prelude.{◌≡◌, ℕ, ℤ, ◌<◌, ◌≤◌, true, false, List, length, Option, IfSome}
+use Rattle.std.specs.Prelude.{MatchOption, Ok, Err, option_map}
 use Rattle.siting_definitions.specs.declared.Word.{Word}
 use Rattle.siting_definitions.specs.Point.{Pt}
 use Rattle.siting_definitions.specs.Instance.{Instance}

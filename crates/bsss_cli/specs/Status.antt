@@ -1,31 +1,35 @@
 -- The statuses of a run, and what each says.
-use Rattle.std.specs.Prelude.{◌≡◌, ◌≢◌, ℕ, Bool, true, false, is_some, IsTrue, Option, Some, None, Result, Ok, Err}
+use Rattle.std.specs.Prelude.{◌≡◌, ◌≢◌, ℕ, Bool, true, false, is_some, IsTrue, Option, Some, None}
+use Rattle.std.specs.Prelude.{Result, Ok, Err}
 use Rattle.siting_definitions.specs.declared.Word.{Word}
 use Rattle.siting_definitions.specs.declared.Word.TheVariants as words
 use Rattle.bsss_cli.specs.declared.status.Status.{Status}
-use Rattle.bsss_cli.specs.declared.status.Status.TheVariants.{Solved, Accepted, Made, Polished, Near}
-use Rattle.bsss_cli.specs.declared.status.Status.TheVariants.{Usage, BadInstance, Rejected, ReadFault}
+use Rattle.bsss_cli.specs.declared.status.Status.TheVariants.{Solved, Accepted, Made, Polished}
+use Rattle.bsss_cli.specs.declared.status.Status.TheVariants.{Near}
+use Rattle.bsss_cli.specs.declared.status.Status.TheVariants.{Usage, BadInstance, Rejected}
+use Rattle.bsss_cli.specs.declared.status.Status.TheVariants.{ReadFault}
 use Rattle.bsss_cli.specs.declared.status.Status.TheVariants.{WriteFault, NoMemory, TooLong}
 use Rattle.bsss_cli.specs.declared.status.Status.TheVariants.{PoolFull, Budget, Floor, Empty}
-use Rattle.bsss_cli.specs.declared.status.Status.TheVariants.{SmallBudget, SmallPool, NoSite, TooMany}
+use Rattle.bsss_cli.specs.declared.status.Status.TheVariants.{SmallBudget, SmallPool, NoSite}
+use Rattle.bsss_cli.specs.declared.status.Status.TheVariants.{TooMany}
 
 -- how much of the text of a run its sink took
-pub data Extent : Type 0 where
-  Whole : Extent
-  Front : Extent
-  Nothing : Extent
+pub data Portion : Type 0 where
+  Whole : Portion
+  Front : Portion
+  Nothing : Portion
 
 pub record Meaning : Type 0 where
   -- the code with which the program ends
   pub code : ℕ
   -- how much of its text the sink took
-  pub taken : Extent
+  pub taken : Portion
   -- whether a command that reads answers it only after the source was read to its end
   pub read_all : Bool
   -- the last word of the answer that was written, where it is an answer's status
   pub word : Option Word
 
-abbrev pub meaning : ℕ → Extent → Bool → Option Word → Meaning
+abbrev pub meaning : ℕ → Portion → Bool → Option Word → Meaning
 meaning code taken read_all word =
     record { code = code; taken = taken; read_all = read_all; word = word }
 

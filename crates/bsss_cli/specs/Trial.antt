@@ -1,10 +1,12 @@
 -- What a trial answers.
-use Rattle.std.specs.Prelude.{◌≡◌, ℕ, pos, true, false, List, [], ◌∷◌, length, codes, MatchOption, ⊤}
+use Rattle.std.specs.Prelude.{◌≡◌, ℕ, pos, true, false, List, [], ◌∷◌, length, codes, MatchOption}
+use Rattle.std.specs.Prelude.{⊤}
 use Rattle.std.specs.Fmt.{signed_decimal}
 use Rattle.siting_definitions.specs.declared.Word.{Word}
 use Rattle.siting_definitions.specs.Answer.{Head, Answer}
 use Rattle.siting_definitions.specs.Line.{text_of}
-use Rattle.siting_definitions.specs.AnswerText.{number_line, optional_line, site_line, cost_line, word_field}
+use Rattle.siting_definitions.specs.AnswerText.{number_line, optional_line, site_line, cost_line}
+use Rattle.siting_definitions.specs.AnswerText.{word_field}
 use Rattle.case_maker.specs.Made.{made}
 use Rattle.command_line.specs.declared.command.Settings.{Settings}
 use Rattle.bsss_cli.specs.Status.{meaning_of, IsAnswer}

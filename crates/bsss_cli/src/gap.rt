@@ -1,6 +1,7 @@
 //! The gap asked.
 
-ghost use Rattle.std.specs.Prelude.{◌≡◌, ◌≤◌, ◌*◌, ◌/◌, ◌^◌, pos, ◌≤ℤ◌, unsigned_abs, option_map, IfSome};
+ghost use Rattle.std.specs.Prelude.{◌≡◌, ◌≤◌, ◌*◌, ◌/◌, ◌^◌, pos, ◌≤ℤ◌, unsigned_abs, option_map};
+ghost use Rattle.std.specs.Prelude.{IfSome};
 ghost use Rattle.siting_definitions.specs.Sites as sites;
 ghost use Rattle.command_line.specs.Command.{IsGapRule};
 

@@ -11,8 +11,8 @@ ghost use Rattle.siting_definitions.specs.AnswerText.{answer_text, number_line, 
 ghost use Rattle.discard_log.specs.Nodes.{mark_of};
 ghost use Rattle.near_set.specs.Near.{near_list};
 ghost use Rattle.bsss_cli.specs.Texts as texts;
-ghost use Rattle.bsss_cli.specs.Texts.{bad_instance, rejected, small_budget, small_pool, small_text};
-ghost use Rattle.bsss_cli.specs.Texts.{too_many};
+ghost use Rattle.bsss_cli.specs.Texts.{bad_instance, rejected, small_budget, small_pool};
+ghost use Rattle.bsss_cli.specs.Texts.{small_text, too_many};
 ghost use Rattle.bsss_cli.specs.Status as statuses;
 ghost use Rattle.bsss_cli.specs.Polish.{polish_lines};
 ghost use Rattle.bsss_cli.specs.Near.{near_text};

@@ -1,3 +1,5 @@
 mod CheapestLemmas
 mod OpeningLemmas
-mod CentreLemmas
+mod SkipLemmas
+mod StartLemmas
+pub mod CentreLemmas

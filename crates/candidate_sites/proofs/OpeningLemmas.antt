@@ -86,6 +86,10 @@ vertex_cost-small : (i : Instance) (z : Pt) → IsInstance i → IsVertex z → 
 unfolding IsVertex
 vertex_cost-small i z lawful vertex = omega (arith, upper_of-size i z 65536000000 200000000000 lawful vertex)
 
+-- the cost of a vertex
+pub small_vertex : (i : Instance) (v : Place) → IsInstance i → IsPlace v → unsigned_abs (upper_of i (grid v)) ≤ 2 ^ 62
+small_vertex i v lawful place = vertex_cost-small i (grid v) lawful (grid-vertex v place)
+
 -- ---- the answers
 abbrev with_cost : Instance → Option Pt → Option (Pt × ℤ)
 with_cost i o = option_map (λ z. (z, upper_of i z)) o
@@ -127,12 +131,15 @@ small-answer i r lawful same =
     priced None h = tt
     priced (Some z) h = vertex_cost-small i z lawful h
 
--- the cheapest of the permitted polygons' vertices, and then of all
-pub opening_found : (i : Instance) (ps qs : List (List Place)) (a b : Option (Pt × ℤ)) → ps ≡ i.permitted → qs ≡ i.forbidden → a ≡ fold (cheaper_vertex i) None (vertices ps) → b ≡ fold (cheaper_vertex i) a (vertices qs) → b ≡ with_cost i (opening_of i)
-opening_found i ps qs a b permitted forbidden first all =
+-- the cheapest of the permitted polygons' vertices, and then of all, from a start from which the same is found as from nothing
+pub opening_found : (i : Instance) (ps qs : List (List Place)) (start a b : Option (Pt × ℤ)) → ps ≡ i.permitted → qs ≡ i.forbidden → fold (cheaper_vertex i) start (vertices i.permitted ++ vertices i.forbidden) ≡ fold (cheaper_vertex i) None (vertices i.permitted ++ vertices i.forbidden) → a ≡ fold (cheaper_vertex i) start (vertices ps) → b ≡ fold (cheaper_vertex i) a (vertices qs) → b ≡ with_cost i (opening_of i)
+opening_found i ps qs start a b permitted forbidden same first all =
     all
-    ∙ ap (λ f. fold (cheaper_vertex i) f (vertices qs)) (first ∙ ap (λ us. fold (cheaper_vertex i) None (vertices us)) permitted)
-    ∙ ap (λ us. fold (cheaper_vertex i) (fold (cheaper_vertex i) None (vertices i.permitted)) (vertices us)) forbidden
+    ∙ ap (λ f. fold (cheaper_vertex i) f (vertices qs)) (first ∙ ap (λ us. fold (cheaper_vertex i) start (vertices us)) permitted)
+    ∙ ap (λ us. fold (cheaper_vertex i) (fold (cheaper_vertex i) start (vertices i.permitted)) (vertices us)) forbidden
+    ∙ sym (fold-append (cheaper_vertex i) start (vertices i.permitted) (vertices i.forbidden))
+    ∙ same
+    ∙ fold-append (cheaper_vertex i) None (vertices i.permitted) (vertices i.forbidden)
     ∙ vertices-cheapest i
 
 -- ---- one vertex more, and one polygon more

@@ -1,2 +1,3 @@
 pub mod Cheaper
 pub mod First
+pub mod Start

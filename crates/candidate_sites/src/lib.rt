@@ -6,9 +6,10 @@ mod centre;
 mod cheapest;
 mod laws;
 mod site;
+mod start;
 #[cfg(test)]
 mod tests;
 
-pub use centre::centre_site;
+pub use centre::{centre_site, permitted_centre};
 pub use cheapest::opening;
 pub use laws::the_opening_is_the_first_of_least_cost;

@@ -13,7 +13,7 @@ use Rattle.line_stream.proofs.LineLemmas.{calm-then, ended-then}
 use Rattle.certificate.specs.declared.reader.AnswerError.{AnswerError}
 use Rattle.certificate.specs.declared.reader.AnswerError.TheVariants.{Form, Instance as BadInstance, TooLong as TextTooLong, ReadFault as TextReadFault, NoMemory as TextNoMemory}
 use Rattle.certificate.specs.HeadReading.{answer_limit, in_answer, head_reading, end_of}
-use Rattle.certificate.specs.AnswerReading.{StopsAs as TextStopsAs, ReadInMemory, IsNoEnd}
+use Rattle.certificate.specs.AnswerReading.{TextStopsAs, ReadInMemory, IsNoEnd}
 use Rattle.certificate.specs.Beginnings.{start_of}
 use Rattle.cert_checker.specs.declared.faults.CheckFault.{CheckFault}
 use Rattle.cert_checker.specs.declared.faults.CheckError.{CheckError}
@@ -22,13 +22,13 @@ use Rattle.cert_checker.specs.declared.checking.Accepted.{Accepted}
 use Rattle.cert_checker.specs.Faults.{head_fault_of}
 use Rattle.cert_checker.specs.Checking.{error_of, unless_fault, read_ok, accepted_of, after_head, check_in, checking}
 use Rattle.cert_checker.specs.Steps.{ChecksTo}
-use Rattle.cert_checker.specs.CheckReading.{SaysOf, CheckRead, UnlessReadFault, CountsAs, CheckDone, IsPast, StopsAs, IsStopped, after_root, at_last}
+use Rattle.cert_checker.specs.CheckReading.{SaysOf, CheckRead, UnlessCheckReadFault, CheckCountsAs, CheckDone, IsPast, CheckStopsAs, IsCheckStopped, after_root, at_last}
 use Rattle.cert_checker.proofs.ReadLemmas.{past_as, past_stopped, past_fault, part_read, part_error, part_needed}
 
 -- ---- a check from its beginning
 module _ (left : Option (List ℕ)) (faults : ℕ) (is_strict : Bool) where
   -- a fault, or an end of the bytes, before all was checked
-  pub done_says : (b : Stream) (got : List ℕ) (e : CheckError) → StopsAs check_in (start_of left faults is_strict) b got e → SaysOf left b.left got (Err e)
+  pub done_says : (b : Stream) (got : List ℕ) (e : CheckError) → CheckStopsAs check_in (start_of left faults is_strict) b got e → SaysOf left b.left got (Err e)
   unfolding checking
   done_says b got (Fault fault) (inl settles) = inl (settles false)
   done_says b got (Fault fault) (inr ended) = inr ended
@@ -36,7 +36,7 @@ module _ (left : Option (List ℕ)) (faults : ℕ) (is_strict : Bool) where
   done_says b got ReadFault stops = stops
   done_says b got NoMemory none = absurd none
 
-  pub done_stopped : (b : Stream) (e : CheckError) → IsStopped check_in (start_of left faults is_strict) b e → CheckDone (start_of left faults is_strict) b (Err e)
+  pub done_stopped : (b : Stream) (e : CheckError) → IsCheckStopped check_in (start_of left faults is_strict) b e → CheckDone (start_of left faults is_strict) b (Err e)
   done_stopped b e h = record {
     read = record { got = h.got; consumes = h.consumes; needed = h.needed; says = done_says b h.got e h.stops };
     counts = h.counts;
@@ -108,10 +108,10 @@ answers_error a b e (Ok x) is done = absurd is
 answers_error a b e (Err x) is done = subst (λ (y : CheckError). CheckDone a b (Err y)) (sym is) done
 
 -- the count of the source, whatever else is known of it
-calm_over : (a b c : Stream) → c.faults ≡ b.faults → c.is_strict ≡ b.is_strict → IsCalm a b → IsCalm a c
+pub calm_over : (a b c : Stream) → c.faults ≡ b.faults → c.is_strict ≡ b.is_strict → IsCalm a b → IsCalm a c
 calm_over a b c faults strict h = record { later = rw faults h.later; same = strict ∙ h.same; quiet = λ yes. faults ∙ h.quiet yes }
 
-counts_over : (a b c : Stream) (result : Result Accepted CheckError) → c.faults ≡ b.faults → c.is_strict ≡ b.is_strict → CountsAs a b result → CountsAs a c result
+counts_over : (a b c : Stream) (result : Result Accepted CheckError) → c.faults ≡ b.faults → c.is_strict ≡ b.is_strict → CheckCountsAs a b result → CheckCountsAs a c result
 counts_over a b c (Ok x) faults strict h = calm_over a b c faults strict h
 counts_over a b c (Err (Fault fault)) faults strict h = calm_over a b c faults strict h
 counts_over a b c (Err TooLong) faults strict h = calm_over a b c faults strict h
@@ -146,21 +146,21 @@ pub answers_of : (a b : Option (List ℕ)) (result : Result Accepted CheckError)
 answers_of a b result read = says_all a b read.got result read.consumes read.says
 
 -- the count of the source
-pub rose_of : (a b : Stream) (result : Result Accepted CheckError) → CountsAs a b result → IsErrOf result ReadFault → Rose a.faults b.faults
+pub rose_of : (a b : Stream) (result : Result Accepted CheckError) → CheckCountsAs a b result → IsErrOf result ReadFault → Rose a.faults b.faults
 rose_of a b (Ok x) h is = absurd (cc)
 rose_of a b (Err ReadFault) h is = h.1
 rose_of a b (Err (Fault fault)) h is = absurd (let no : Fault fault ≡ ReadFault = cc in cc)
 rose_of a b (Err TooLong) h is = absurd (let no : TooLong ≡ ReadFault = cc in cc)
 rose_of a b (Err NoMemory) h is = absurd (let no : NoMemory ≡ ReadFault = cc in cc)
 
-pub later_of : (a b : Stream) (result : Result Accepted CheckError) → CountsAs a b result → a.faults ≤ b.faults
+pub later_of : (a b : Stream) (result : Result Accepted CheckError) → CheckCountsAs a b result → a.faults ≤ b.faults
 later_of a b (Ok x) h = h.later
 later_of a b (Err (Fault fault)) h = h.later
 later_of a b (Err TooLong) h = h.later
 later_of a b (Err ReadFault) h = h.0
 later_of a b (Err NoMemory) h = h.later
 
-pub heard_of : (a b : Stream) (result : Result Accepted CheckError) → CountsAs a b result → IsTrue a.is_strict → UnlessReadFault result (b.faults ≡ a.faults)
+pub heard_of : (a b : Stream) (result : Result Accepted CheckError) → CheckCountsAs a b result → IsTrue a.is_strict → UnlessCheckReadFault result (b.faults ≡ a.faults)
 heard_of a b (Ok x) h strict = h.quiet strict
 heard_of a b (Err (Fault fault)) h strict = h.quiet strict
 heard_of a b (Err TooLong) h strict = h.quiet strict

@@ -9,13 +9,13 @@ use Rattle.line_stream.proofs.LineLemmas.{Consumes-none, calm-none, calm-then, e
 use Rattle.certificate.specs.declared.reader.AnswerError.{AnswerError}
 use Rattle.certificate.specs.declared.reader.AnswerError.TheVariants.{Form, Instance as BadInstance, TooLong as TextTooLong, ReadFault as TextReadFault, NoMemory as TextNoMemory}
 use Rattle.certificate.specs.HeadReading.{answer_limit}
-use Rattle.certificate.specs.AnswerReading.{StopsAs as TextStopsAs, BlamesAs as TextBlamesAs, ReadWith}
+use Rattle.certificate.specs.AnswerReading.{TextStopsAs, TextBlamesAs, ReadWith}
 use Rattle.cert_checker.specs.declared.faults.CheckFault.{CheckFault}
 use Rattle.cert_checker.specs.declared.faults.CheckError.{CheckError}
 use Rattle.cert_checker.specs.declared.faults.CheckError.TheVariants.{Fault, ReadFault, TooLong, NoMemory}
 use Rattle.cert_checker.specs.declared.checking.Accepted.{Accepted}
 use Rattle.cert_checker.specs.Checking.{error_of, read_ok}
-use Rattle.cert_checker.specs.CheckReading.{BlamesAs, IsPast, StopsAs, IsStopped}
+use Rattle.cert_checker.specs.CheckReading.{CheckBlamesAs, IsPast, CheckStopsAs, IsCheckStopped}
 
 -- ---- the bytes between
 -- nothing was read yet
@@ -28,14 +28,14 @@ pub past_as : (wanted later last : Coming → Result Accepted CheckError) (a b :
 past_as wanted later last a b h is = record { got = h.got; consumes = h.consumes; needed = h.needed; same = λ more rest. h.same more rest ∙ is more rest; count = h.count; calm = h.calm }
 
 -- a call that fails as the source did or didn't, after calls that didn't
-blames_later : (a b c : Stream) (e : CheckError) → IsCalm a b → BlamesAs b c e → BlamesAs a c e
+blames_later : (a b c : Stream) (e : CheckError) → IsCalm a b → CheckBlamesAs b c e → CheckBlamesAs a c e
 blames_later a b c (Fault fault) h k = calm-then a b c h k
 blames_later a b c TooLong h k = calm-then a b c h k
 blames_later a b c ReadFault h k = (omega (arith, h.later, k.0), rose-then a.faults b.faults c.faults h.later k.1)
 blames_later a b c NoMemory h k = calm-then a b c h k
 
 -- the same, of a call of a reader
-pub blames_text : (b c : Stream) (e : AnswerError) → TextBlamesAs b c e → BlamesAs b c (error_of e)
+pub blames_text : (b c : Stream) (e : AnswerError) → TextBlamesAs b c e → CheckBlamesAs b c (error_of e)
 blames_text b c (Form line) k = k
 blames_text b c BadInstance k = k
 blames_text b c TextTooLong k = k
@@ -55,7 +55,7 @@ module _ (wanted later : Coming → Result Accepted CheckError) (a b c : Stream)
       → wanted (coming_in more answer_limit a.lines ((h.got ++ got) ++ rest)) ≡ x
   past_same got x more rest is = ap (λ l. wanted (coming_in more answer_limit a.lines l)) (append_assoc h.got got rest) ∙ (h.same more (got ++ rest) ∙ is)
 
-  past_stops : (got : List ℕ) (e : CheckError) → StopsAs later b c got e → StopsAs wanted a c (h.got ++ got) e
+  past_stops : (got : List ℕ) (e : CheckError) → CheckStopsAs later b c got e → CheckStopsAs wanted a c (h.got ++ got) e
   past_stops got (Fault fault) (inl settles) = inl (λ more rest. past_same got (Err (Fault fault)) more rest (settles more rest))
   past_stops got (Fault fault) (inr ended) = inr (h.same false got ∙ ended.0, ended-then a.left b.left c.left h.got h.consumes ended.1)
   past_stops got TooLong settles = λ more rest. past_same got (Err TooLong) more rest (settles more rest)
@@ -63,7 +63,7 @@ module _ (wanted later : Coming → Result Accepted CheckError) (a b c : Stream)
   past_stops got NoMemory stops = stops
 
   -- an error that comes later
-  pub past_stopped : (e : CheckError) → IsStopped later b c e → IsStopped wanted a c e
+  pub past_stopped : (e : CheckError) → IsCheckStopped later b c e → IsCheckStopped wanted a c e
   past_stopped e k = record {
     got = h.got ++ k.got;
     consumes = Consumes-then a.left b.left c.left h.got k.got h.consumes k.consumes;
@@ -85,7 +85,7 @@ module _ (wanted later : Coming → Result Accepted CheckError) (a b c : Stream)
 
 -- a fault of what was read
 pub past_fault : (wanted later : Coming → Result Accepted CheckError) (a b : Stream) → IsPast wanted later a b → (fault : CheckFault)
-    → ((more : Bool) (rest : List ℕ) → later (coming_in more answer_limit b.lines rest) ≡ Err (Fault fault)) → IsStopped wanted a b (Fault fault)
+    → ((more : Bool) (rest : List ℕ) → later (coming_in more answer_limit b.lines rest) ≡ Err (Fault fault)) → IsCheckStopped wanted a b (Fault fault)
 past_fault wanted later a b h fault is = record {
   got = h.got;
   consumes = h.consumes;
@@ -104,7 +104,7 @@ module _ {X : Type 0} (later : Coming → Result Accepted CheckError) (part : Co
   pub part_needed : (got : List ℕ) → IsNeeded answer_limit part TextTooLong b.lines got → IsNeeded answer_limit later TooLong b.lines got
   part_needed got needed = needed_as answer_limit part TextTooLong later TooLong (λ r is. part_says r (Err TextTooLong) is) b.lines got needed
 
-  part_stops : (got : List ℕ) (e : AnswerError) → TextStopsAs false part b c got e → StopsAs later b c got (error_of e)
+  part_stops : (got : List ℕ) (e : AnswerError) → TextStopsAs false part b c got e → CheckStopsAs later b c got (error_of e)
   part_stops got (Form line) (inl settles) = inl (λ goes_on rest. part_says _ (Err (Form line)) (settles goes_on rest))
   part_stops got (Form line) (inr ended) = inr (part_says _ (Err (Form line)) ended.0, ended.1)
   part_stops got BadInstance settles = inl (λ goes_on rest. part_says _ (Err BadInstance) (settles goes_on rest))
@@ -114,7 +114,7 @@ module _ {X : Type 0} (later : Coming → Result Accepted CheckError) (part : Co
 
   -- the part wasn't read
   pub part_error : (e : AnswerError) (got : List ℕ) → Consumes b.left c.left got → IsNeeded answer_limit part TextTooLong b.lines got → TextStopsAs false part b c got e → TextBlamesAs b c e
-      → IsStopped later b c (error_of e)
+      → IsCheckStopped later b c (error_of e)
   part_error e got consumes needed stops counts = record {
     got = got;
     consumes = consumes;

@@ -25,7 +25,7 @@ use Rattle.cert_checker.specs.declared.faults.CheckError.TheVariants.{Fault}
 use Rattle.cert_checker.specs.declared.checking.Accepted.{Accepted}
 use Rattle.cert_checker.specs.Checking.{Progress, error_of, unless_fault, read_ok, at_item, items_of, last_fault, node_fault, progress_after, take_mark}
 use Rattle.cert_checker.specs.Walking.{squares_after}
-use Rattle.cert_checker.specs.CheckReading.{after_root, at_last, IsPast, IsStopped, MarksRead}
+use Rattle.cert_checker.specs.CheckReading.{after_root, at_last, IsPast, IsCheckStopped, MarksRead}
 use Rattle.cert_checker.proofs.ReadLemmas.{past_nothing, past_as, past_then, past_stopped, past_fault, part_read, part_error}
 
 -- ---- one line
@@ -152,9 +152,9 @@ shorter : {T : Type 0} (form : List ℕ → Option T) (r : Coming) (v : T) (afte
 shorter form r v after turns n few = omega (arith, few, ap length n.here, ap (λ (p : Coming). length p.input.lines) n.rest)
 
 -- an error that was answered
-marks_stop : (h : Head) (start after : Stream) (e : CheckError) (result : Result Tally CheckError) → IsErrAnd result (λ x. x ≡ e) → IsStopped (after_root h) start after e → MarksRead h start after result
+marks_stop : (h : Head) (start after : Stream) (e : CheckError) (result : Result Tally CheckError) → IsErrAnd result (λ x. x ≡ e) → IsCheckStopped (after_root h) start after e → MarksRead h start after result
 marks_stop h start after e (Ok t) is stopped = absurd is
-marks_stop h start after e (Err x) is stopped = subst (IsStopped (after_root h) start after) (sym is) stopped
+marks_stop h start after e (Err x) is stopped = subst (IsCheckStopped (after_root h) start after) (sym is) stopped
 
 -- an item was read
 item_read : (h : Head) (start now after : Stream) (squares : List Square) (t : Tally) (turns : ℕ) (item : Item) → IsHalfway h start now squares t turns

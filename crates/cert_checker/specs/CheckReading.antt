@@ -7,7 +7,7 @@ use Rattle.siting_definitions.specs.Marks.{Tally}
 use Rattle.siting_definitions.specs.Answer.{Head}
 use Rattle.line_stream.specs.Coming.{Coming}
 use Rattle.line_stream.specs.Stream.{Stream, IsCalm, AreTaken, coming_in, Settles, LeavesOpen}
-use Rattle.line_stream.specs.Stream.{IsNeeded, HasEnded}
+use Rattle.line_stream.specs.Stream.{IsNeeded, EndsHere}
 use Rattle.certificate.specs.declared.reader.AnswerError.TheVariants.{TooLong as TextTooLong}
 use Rattle.certificate.specs.HeadReading.{answer_limit, head_reading, end_of}
 use Rattle.certificate.specs.Beginnings.{nothing_read}
@@ -42,10 +42,10 @@ IsInHead got = IsNeeded answer_limit head_reading TextTooLong nothing_read got
 -- fault so far, or are of the head, which alone takes memory.
 abbrev pub SaysOf : Option (List ℕ) → Option (List ℕ) → List ℕ → Result Accepted CheckError → Type 0
 SaysOf before after got (Ok accepted) =
-    (checking got ≡ Ok accepted) × HasEnded before after
+    (checking got ≡ Ok accepted) × EndsHere before after
 SaysOf before after got (Err (Fault fault)) =
     IsSettled got (Err (Fault fault))
-    ⊎ ((checking got ≡ Err (Fault fault)) × HasEnded before after)
+    ⊎ ((checking got ≡ Err (Fault fault)) × EndsHere before after)
 SaysOf before after got (Err TooLong) = IsSettled got (Err TooLong)
 SaysOf before after got (Err ReadFault) = IsOpenSoFar got
 SaysOf before after got (Err NoMemory) = IsInHead got
@@ -60,30 +60,31 @@ pub record CheckRead (before after : Option (List ℕ)) (result : Result Accepte
   pub says : SaysOf before after got result
 
 -- what holds where something else than `ReadFault` is answered
-abbrev pub UnlessReadFault : {T : Type 0} → Result T CheckError → Type 0 → Type 0
-UnlessReadFault (Ok value) holds = holds
-UnlessReadFault (Err (Fault fault)) holds = holds
-UnlessReadFault (Err ReadFault) holds = ⊤
-UnlessReadFault (Err TooLong) holds = holds
-UnlessReadFault (Err NoMemory) holds = holds
+abbrev pub UnlessCheckReadFault : {T : Type 0} → Result T CheckError → Type 0 → Type 0
+UnlessCheckReadFault (Ok value) holds = holds
+UnlessCheckReadFault (Err (Fault fault)) holds = holds
+UnlessCheckReadFault (Err ReadFault) holds = ⊤
+UnlessCheckReadFault (Err TooLong) holds = holds
+UnlessCheckReadFault (Err NoMemory) holds = holds
 
 -- ---- a check step by step
 -- a call answers that the source failed only where the count of faults rose in it, and that it
 -- didn't only where no call of the source failed
-abbrev pub BlamesAs : Stream → Stream → CheckError → Type 0
-BlamesAs before after (Fault fault) = IsCalm before after
-BlamesAs before after TooLong = IsCalm before after
-BlamesAs before after ReadFault = (before.faults ≤ after.faults) × Rose before.faults after.faults
-BlamesAs before after NoMemory = IsCalm before after
+abbrev pub CheckBlamesAs : Stream → Stream → CheckError → Type 0
+CheckBlamesAs before after (Fault fault) = IsCalm before after
+CheckBlamesAs before after TooLong = IsCalm before after
+CheckBlamesAs before after ReadFault =
+    (before.faults ≤ after.faults) × Rose before.faults after.faults
+CheckBlamesAs before after NoMemory = IsCalm before after
 
-abbrev pub CountsAs : {T : Type 0} → Stream → Stream → Result T CheckError → Type 0
-CountsAs before after (Ok value) = IsCalm before after
-CountsAs before after (Err error) = BlamesAs before after error
+abbrev pub CheckCountsAs : {T : Type 0} → Stream → Stream → Result T CheckError → Type 0
+CheckCountsAs before after (Ok value) = IsCalm before after
+CheckCountsAs before after (Err error) = CheckBlamesAs before after error
 
 -- a whole check, and what it says of the source's count
 pub record CheckDone (before after : Stream) (result : Result Accepted CheckError) : Type 0 where
   pub read : CheckRead before.left after.left result
-  pub counts : CountsAs before after result
+  pub counts : CheckCountsAs before after result
 
 -- What was `wanted` of an answer is what is wanted `later` of what is still to come of it: no fault
 -- stands in the bytes between.
@@ -99,26 +100,26 @@ pub record IsPast (wanted later : Coming → Result Accepted CheckError) (before
   pub calm : IsCalm before after
 
 -- what is known at an error of what was wanted, as in `SaysOf`; no memory is wanted
-abbrev pub StopsAs : (Coming → Result Accepted CheckError) → Stream → Stream → List ℕ → CheckError
-    → Type 0
-StopsAs wanted before after got (Fault fault) =
+abbrev pub CheckStopsAs : (Coming → Result Accepted CheckError) → Stream → Stream → List ℕ
+    → CheckError → Type 0
+CheckStopsAs wanted before after got (Fault fault) =
     Settles answer_limit wanted before.lines got (Err (Fault fault))
     ⊎ ((wanted (coming_in false answer_limit before.lines got) ≡ Err (Fault fault))
-    × HasEnded before.left after.left)
-StopsAs wanted before after got TooLong =
+    × EndsHere before.left after.left)
+CheckStopsAs wanted before after got TooLong =
     Settles answer_limit wanted before.lines got (Err TooLong)
-StopsAs wanted before after got ReadFault =
+CheckStopsAs wanted before after got ReadFault =
     LeavesOpen answer_limit wanted TooLong before.lines got
-StopsAs wanted before after got NoMemory = ⊥
+CheckStopsAs wanted before after got NoMemory = ⊥
 
 -- the check of what was wanted ended with this error
-pub record IsStopped (wanted : Coming → Result Accepted CheckError) (before after : Stream)
+pub record IsCheckStopped (wanted : Coming → Result Accepted CheckError) (before after : Stream)
     (error : CheckError) : Type 0 where
   pub got : List ℕ
   pub consumes : Consumes before.left after.left got
   pub needed : IsNeeded answer_limit wanted TooLong before.lines got
-  pub stops : StopsAs wanted before after got error
-  pub counts : BlamesAs before after error
+  pub stops : CheckStopsAs wanted before after got error
+  pub counts : CheckBlamesAs before after error
 
 -- what the lines after the head say, where there is no fault in the head
 abbrev pub after_root : Head → Coming → Result Accepted CheckError
@@ -132,4 +133,4 @@ at_last h t r = read_ok (end_of r) (λ _. Ok (accepted_of h t))
 -- after it still to come; at `Err` the fault.
 abbrev pub MarksRead : Head → Stream → Stream → Result Tally CheckError → Type 0
 MarksRead h before after (Ok t) = IsPast (after_root h) (at_last h t) before after
-MarksRead h before after (Err error) = IsStopped (after_root h) before after error
+MarksRead h before after (Err error) = IsCheckStopped (after_root h) before after error

@@ -12,7 +12,8 @@ ghost use Rattle.answer_model.specs.Tally.{AreSmall, tally_sum};
 ghost use Rattle.cert_checker.specs.Checking as checks;
 ghost use Rattle.cert_checker.specs.Checking.{checking, node_fault};
 ghost use Rattle.cert_checker.specs.Walking.{squares_after};
-ghost use Rattle.cert_checker.specs.CheckReading.{CheckDone, CheckRead, MarksRead, UnlessReadFault};
+ghost use Rattle.cert_checker.specs.CheckReading.{CheckDone, CheckRead, MarksRead};
+ghost use Rattle.cert_checker.specs.CheckReading.{UnlessCheckReadFault};
 ghost use Rattle.cert_checker.specs.Steps.{ChecksTo};
 
 use crate::end::last_fault;
@@ -62,7 +63,7 @@ pub fn check<S: Source>(alloc: Global, source: &mut S) -> Result<Accepted, Check
 
     // Over a strict source no read failed where the answer isn't `ReadFault`.
     ensures heard { IsTrue S.is_strict
-        → UnlessReadFault result (S.faults source.new ≡ S.faults source.old) }
+        → UnlessCheckReadFault result (S.faults source.new ≡ S.faults source.old) }
 {
     check_text(alloc, source)
 }

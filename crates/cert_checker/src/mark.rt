@@ -14,10 +14,10 @@ use crate::faults::{
 };
 use crate::head::is_at_most;
 use answer_model::Head;
-use candidate_sites::centre_site;
+use candidate_sites::permitted_centre;
 use dyadic_square::Square;
 use exclusion::excluded;
-use objectives::{fine, reaches};
+use objectives::{fine, fine_and_upper, reaches};
 use site_model::Instance;
 use siting_definitions::Mark;
 
@@ -87,13 +87,13 @@ fn is_uncalled(head: &Head, opening: Option<i64>, square: Square, seen: Option<i
         return true;
     }
     match seen {
-        None => opening.is_some() || centre_cost(&head.instance, square).is_some(),
+        None => opening.is_some() || permitted_centre(&head.instance, square).is_some(),
         Some(seen) => is_wrongly_seen(head, opening, square, seen),
     }
 }
 
 /// Whether this number of the incumbent can't have been seen, or settled the square, or the opening
-/// or the centre costs less. The costs that take long come last.
+/// or the centre costs less. The costs that take a pass over the points come last, in one pass.
 fn is_wrongly_seen(head: &Head, opening: Option<i64>, square: Square, seen: i64) -> bool
     requires { opening ≡ opening_cost head.now.instance }
     ensures { let i = head.now.instance in
@@ -108,10 +108,8 @@ fn is_wrongly_seen(head: &Head, opening: Option<i64>, square: Square, seen: i64)
     if is_below(opening, seen) {
         return true;
     }
-    if reaches(Some(seen), fine(&head.instance, square), head.gap) {
-        return true;
-    }
-    is_below(centre_cost(&head.instance, square), seen)
+    let (bound, centre) = fine_and_centre(&head.instance, square);
+    reaches(Some(seen), bound, head.gap) || is_below(centre, seen)
 }
 
 /// Whether a cost is there and below another one.
@@ -124,13 +122,17 @@ fn is_below(cost: Option<i64>, other: i64) -> bool
     }
 }
 
-/// The upper cost of a square's centre site, in cost units, if it has one.
-fn centre_cost(instance: &Instance, square: Square) -> Option<i64>
-    ensures { result ≡ sites.centre_cost instance.now square }
+/// The fine bound of a square, and the upper cost of its centre site, if it has one, in cost units.
+fn fine_and_centre(instance: &Instance, square: Square) -> (i64, Option<i64>)
+    ensures bound { result.0 ≡ fine_of instance.now square }
+    ensures centre { result.1 ≡ sites.centre_cost instance.now square }
 {
-    match centre_site(instance, square) {
-        Some((_, upper)) => Some(upper),
-        None => None,
+    match permitted_centre(instance, square) {
+        Some(site) => {
+            let (bound, upper) = fine_and_upper(instance, square, site);
+            (bound, Some(upper))
+        }
+        None => (fine(instance, square), None),
     }
 }
 

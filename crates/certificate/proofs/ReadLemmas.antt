@@ -10,13 +10,13 @@ use Rattle.line_stream.specs.declared.lines.LineError.{LineError}
 use Rattle.line_stream.specs.declared.lines.LineError.TheVariants.{Missing, Surplus, TooLong as LineTooLong, Failed as SourceFailed}
 use Rattle.line_stream.specs.Coming.{Coming, next_line, input_end}
 use Rattle.line_stream.specs.Stream.{LinesState, Stream, IsCalm, AreTaken, coming_in, Settles, IsNeeded}
-use Rattle.line_stream.specs.LineReading.{Blames as LineBlames, IsLine, IsStopped, IsKept, LineRead, EndRead as LinesEndRead}
+use Rattle.line_stream.specs.LineReading.{LineBlames, IsLine, IsLineStopped, IsKept, LineRead, LinesEndRead}
 use Rattle.line_stream.proofs.LineLemmas.{Consumes-none, calm-none, calm-then, ended-then, rose-then, needed-kept, needed-last, needed_as, open_as, open_after}
 use Rattle.certificate.specs.declared.reader.AnswerError.{AnswerError}
 use Rattle.certificate.specs.declared.reader.AnswerError.TheVariants.{Form, Instance as BadInstance, TooLong, ReadFault, NoMemory}
 use Rattle.certificate.specs.HeadReading.{answer_limit, answer_error, in_answer, answer_line, or_form, formed, end_of}
 use Rattle.certificate.specs.Blames.{Blames}
-use Rattle.certificate.specs.AnswerReading.{StopsAs, BlamesAs, CountsAs, ReadWith, EndRead}
+use Rattle.certificate.specs.AnswerReading.{TextStopsAs, TextBlamesAs, TextCountsAs, ReadWith, EndRead}
 use Rattle.certificate.specs.ReaderView.{FailsAs, ReadsTo, EndsAs, TakesNone}
 
 -- ---- what was wanted before some bytes were read is told by what is wanted after them
@@ -40,7 +40,7 @@ unfolding error_or
 same_error e f is = ap (error_or e) is
 
 -- no call failed before the one that is answered
-blames_later : (a b c : Stream) (e : AnswerError) → IsCalm a b → BlamesAs b c e → BlamesAs a c e
+blames_later : (a b c : Stream) (e : AnswerError) → IsCalm a b → TextBlamesAs b c e → TextBlamesAs a c e
 blames_later a b c (Form line) h k = calm-then a b c h k
 blames_later a b c BadInstance h k = calm-then a b c h k
 blames_later a b c TooLong h k = calm-then a b c h k
@@ -48,7 +48,7 @@ blames_later a b c ReadFault h k = (omega (arith, h.later, k.0), rose-then a.fau
 blames_later a b c NoMemory h k = calm-then a b c h k
 
 -- what public calls say of the count
-pub blames_of : {T : Type 0} (a b : Stream) (result : Result T AnswerError) → CountsAs a b result → Blames a.faults b.faults result
+pub blames_of : {T : Type 0} (a b : Stream) (result : Result T AnswerError) → TextCountsAs a b result → Blames a.faults b.faults result
 blames_of a b (Ok v) h = record { later = h.later; failed = λ is. absurd (cc) }
 blames_of a b (Err ReadFault) h = record { later = h.0; failed = λ is. h.1 }
 blames_of a b (Err (Form line)) h = record { later = h.later; failed = λ is. absurd (let no : Form line ≡ ReadFault = same_error (Form line) ReadFault is in cc) }
@@ -72,7 +72,7 @@ module _ {T U : Type 0} (wanted : Coming → Result U AnswerError) (later : Comi
   through_settles got e settles more rest = through_same got (Err e) more rest (settles more rest) ∙ h.errors e
 
   -- an error that comes later is one of the whole
-  through_stops : (n : Bool) (got : List ℕ) (e : AnswerError) → StopsAs n later b c got e → StopsAs n wanted a c (h.got ++ got) e
+  through_stops : (n : Bool) (got : List ℕ) (e : AnswerError) → TextStopsAs n later b c got e → TextStopsAs n wanted a c (h.got ++ got) e
   through_stops n got (Form line) (inl settles) = inl (through_settles got (Form line) settles)
   through_stops n got (Form line) (inr ended) =
       inr (h.same false got ∙ (ap change ended.0 ∙ h.errors (Form line)), ended-then a.left b.left c.left h.got h.consumes ended.1)
@@ -133,7 +133,7 @@ through_then wanted later last change change' a b c h k = record {
 calm_lines : (a b : Stream) (lines : LinesState) → IsCalm a b → IsCalm a (record b { lines = lines })
 calm_lines a b lines h = record { later = h.later; same = h.same; quiet = h.quiet }
 
-blames_lines : (a b : Stream) (lines : LinesState) (e : AnswerError) → BlamesAs a b e → BlamesAs a (record b { lines = lines }) e
+blames_lines : (a b : Stream) (lines : LinesState) (e : AnswerError) → TextBlamesAs a b e → TextBlamesAs a (record b { lines = lines }) e
 blames_lines a b lines (Form line) h = calm_lines a b lines h
 blames_lines a b lines BadInstance h = calm_lines a b lines h
 blames_lines a b lines TooLong h = calm_lines a b lines h
@@ -141,7 +141,7 @@ blames_lines a b lines ReadFault h = h
 blames_lines a b lines NoMemory h = calm_lines a b lines h
 
 -- what is known at an error doesn't count what the lines hold
-stops_lines : {T : Type 0} (n : Bool) (wanted : Coming → Result T AnswerError) (a b : Stream) (lines : LinesState) (got : List ℕ) (e : AnswerError) → StopsAs n wanted a b got e → StopsAs n wanted a (record b { lines = lines }) got e
+stops_lines : {T : Type 0} (n : Bool) (wanted : Coming → Result T AnswerError) (a b : Stream) (lines : LinesState) (got : List ℕ) (e : AnswerError) → TextStopsAs n wanted a b got e → TextStopsAs n wanted a (record b { lines = lines }) got e
 stops_lines n wanted a b lines got (Form line) stops = stops
 stops_lines n wanted a b lines got BadInstance stops = stops
 stops_lines n wanted a b lines got TooLong stops = stops
@@ -164,7 +164,7 @@ error_also n f g also a b e h = record {
   counts = h.counts;
 }
   where
-    by_error : (e : AnswerError) → StopsAs n f a b h.got e → StopsAs n g a b h.got e
+    by_error : (e : AnswerError) → TextStopsAs n f a b h.got e → TextStopsAs n g a b h.got e
     by_error (Form line) (inl settles) = inl (λ more rest. also _ (Form line) (settles more rest))
     by_error (Form line) (inr ended) = inr (also _ (Form line) ended.0, ended.1)
     by_error BadInstance settles = λ more rest. also _ BadInstance (settles more rest)
@@ -177,14 +177,14 @@ error_lines : {T : Type 0} {n : Bool} (wanted : Coming → Result (T × Coming) 
 error_lines {n = n} wanted a b lines e h = record { got = h.got; consumes = h.consumes; needed = h.needed; reads = stops_lines n wanted a b lines h.got e h.reads; count = tt; counts = blames_lines a b lines e h.counts }
 
 -- a source is strict or not, whatever is read of it
-strict_blames : (a b : Stream) (e : AnswerError) → BlamesAs a b e → BlamesAs a (record b { is_strict = a.is_strict }) e
+strict_blames : (a b : Stream) (e : AnswerError) → TextBlamesAs a b e → TextBlamesAs a (record b { is_strict = a.is_strict }) e
 strict_blames a b (Form line) h = record { later = h.later; same = refl; quiet = h.quiet }
 strict_blames a b BadInstance h = record { later = h.later; same = refl; quiet = h.quiet }
 strict_blames a b TooLong h = record { later = h.later; same = refl; quiet = h.quiet }
 strict_blames a b ReadFault h = h
 strict_blames a b NoMemory h = record { later = h.later; same = refl; quiet = h.quiet }
 
-strict_stops : {T : Type 0} (n : Bool) (wanted : Coming → Result T AnswerError) (a b : Stream) (strict : Bool) (got : List ℕ) (e : AnswerError) → StopsAs n wanted a b got e → StopsAs n wanted a (record b { is_strict = strict }) got e
+strict_stops : {T : Type 0} (n : Bool) (wanted : Coming → Result T AnswerError) (a b : Stream) (strict : Bool) (got : List ℕ) (e : AnswerError) → TextStopsAs n wanted a b got e → TextStopsAs n wanted a (record b { is_strict = strict }) got e
 strict_stops n wanted a b strict got (Form line) stops = stops
 strict_stops n wanted a b strict got BadInstance stops = stops
 strict_stops n wanted a b strict got TooLong stops = stops
@@ -282,7 +282,7 @@ pub in_memory : {T : Type 0} {n : Bool} (wanted : Coming → Result (T × Coming
 in_memory wanted a b (Ok v) h = record { got = h.got; consumes = h.consumes; needed = h.needed; reads = h.reads; count = h.count; counts = h.counts }
 in_memory {n = n} wanted a b (Err e) h = record { got = h.got; consumes = h.consumes; needed = h.needed; reads = by_error e h.reads; count = tt; counts = h.counts }
   where
-    by_error : (e : AnswerError) → StopsAs false wanted a b h.got e → StopsAs n wanted a b h.got e
+    by_error : (e : AnswerError) → TextStopsAs false wanted a b h.got e → TextStopsAs n wanted a b h.got e
     by_error (Form line) stops = stops
     by_error BadInstance stops = stops
     by_error TooLong stops = stops
@@ -308,7 +308,7 @@ line_read a b line h = record {
 
 module _ {T : Type 0} (wanted : Coming → Result T LineError) (a b : Stream) where
   -- an error of the lines, as one of an answer
-  stopped_as : (n : Bool) (got : List ℕ) (e : LineError) → (h : IsStopped answer_limit wanted a b e) → StopsAs n (λ r. in_answer (wanted r)) a b h.got (answer_error e)
+  stopped_as : (n : Bool) (got : List ℕ) (e : LineError) → (h : IsLineStopped answer_limit wanted a b e) → TextStopsAs n (λ r. in_answer (wanted r)) a b h.got (answer_error e)
   stopped_as n got (Missing line) h = inr (ap in_answer h.stops.0, h.stops.1)
   stopped_as n got (Surplus line) h = inl (λ more rest. ap in_answer (h.stops more rest))
   stopped_as n got LineTooLong h = λ more rest. ap in_answer (h.stops more rest)
@@ -316,14 +316,14 @@ module _ {T : Type 0} (wanted : Coming → Result T LineError) (a b : Stream) wh
       open_as answer_limit wanted LineTooLong (λ r. in_answer (wanted r)) TooLong (λ r is. ap in_answer is) a.lines h.got h.stops
 
   -- the cause of an error of the lines, as of one of an answer
-  stopped_blames : (e : LineError) → LineBlames a b e → BlamesAs a b (answer_error e)
+  stopped_blames : (e : LineError) → LineBlames a b e → TextBlamesAs a b (answer_error e)
   stopped_blames (Missing line) h = h
   stopped_blames (Surplus line) h = h
   stopped_blames LineTooLong h = h
   stopped_blames SourceFailed h = h
 
 -- no line was read
-pub line_stopped : {n : Bool} (a b : Stream) (e : LineError) → IsStopped answer_limit next_line a b e → ReadWith {T = List ℕ} n answer_line a b (Err (answer_error e))
+pub line_stopped : {n : Bool} (a b : Stream) (e : LineError) → IsLineStopped answer_limit next_line a b e → ReadWith {T = List ℕ} n answer_line a b (Err (answer_error e))
 line_stopped {n = n} a b e h = record {
   got = h.got;
   consumes = h.consumes;
@@ -377,7 +377,7 @@ told_read n wanted s t x y i j (Some l) (Some k) (Ok v) h =
     (coming_in false answer_limit t k, ap (λ m. wanted (coming_in false answer_limit s m)) h.consumes ∙ h.reads false k, refl)
 told_read n wanted s t x y i j (Some l) (Some k) (Err e) h = by_error e h.reads
   where
-    by_error : (e : AnswerError) → StopsAs n wanted (record { lines = s; left = Some l; faults = x; is_strict = i }) (record { lines = t; left = Some k; faults = y; is_strict = j }) h.got e → FailsAs (wanted (coming_in false answer_limit s l)) e
+    by_error : (e : AnswerError) → TextStopsAs n wanted (record { lines = s; left = Some l; faults = x; is_strict = i }) (record { lines = t; left = Some k; faults = y; is_strict = j }) h.got e → FailsAs (wanted (coming_in false answer_limit s l)) e
     by_error (Form line) (inl settles) = ap (λ m. wanted (coming_in false answer_limit s m)) h.consumes ∙ settles false k
     by_error (Form line) (inr ended) =
         let none : k ≡ [] = cc in
@@ -429,7 +429,7 @@ told_end s t x y i j (Some l) (Some k) (Ok done) h =
     (ap (λ m. end_of (coming_in false answer_limit s m)) (h.consumes ∙ none) ∙ ap in_answer h.ends, h.left)
 told_end s t x y i j (Some l) (Some k) (Err e) h = by_error e h.stops
   where
-    by_error : (e : AnswerError) → StopsAs false end_of (record { lines = s; left = Some l; faults = x; is_strict = i }) (record { lines = t; left = Some k; faults = y; is_strict = j }) h.got e → FailsAs (end_of (coming_in false answer_limit s l)) e
+    by_error : (e : AnswerError) → TextStopsAs false end_of (record { lines = s; left = Some l; faults = x; is_strict = i }) (record { lines = t; left = Some k; faults = y; is_strict = j }) h.got e → FailsAs (end_of (coming_in false answer_limit s l)) e
     by_error (Form line) (inl settles) = ap (λ m. end_of (coming_in false answer_limit s m)) h.consumes ∙ settles false k
     by_error (Form line) (inr ended) =
         let none : k ≡ [] = cc in

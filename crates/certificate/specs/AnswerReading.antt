@@ -5,7 +5,7 @@ use Rattle.std.specs.Io.KnownBytes.{Consumes}
 use Rattle.port_io.specs.Faults.{Rose}
 use Rattle.line_stream.specs.Coming.{Coming}
 use Rattle.line_stream.specs.Stream.{Stream, IsCalm, AreTaken, coming_in, Settles, LeavesOpen}
-use Rattle.line_stream.specs.Stream.{IsNeeded, HasEnded}
+use Rattle.line_stream.specs.Stream.{IsNeeded, EndsHere}
 use Rattle.line_stream.specs.LineReading.{IsEnd}
 use Rattle.certificate.specs.declared.reader.AnswerError.{AnswerError}
 use Rattle.certificate.specs.declared.reader.AnswerError.TheVariants.{Form, Instance as BadInstance}
@@ -15,19 +15,19 @@ use Rattle.certificate.specs.HeadReading.{answer_limit, end_of}
 -- What is known at an error of what was wanted, where these bytes were read of the source: it is
 -- that error, whatever comes after them, or as the input ended after them; or the source failed
 -- while what was wanted was still open; or memory was wanted, where any is taken.
-abbrev pub StopsAs : {T : Type 0} → Bool → (Coming → Result T AnswerError) → Stream → Stream
+abbrev pub TextStopsAs : {T : Type 0} → Bool → (Coming → Result T AnswerError) → Stream → Stream
     → List ℕ → AnswerError → Type 0
-StopsAs takes wanted before after got (Form line) =
+TextStopsAs takes wanted before after got (Form line) =
     Settles answer_limit wanted before.lines got (Err (Form line))
     ⊎ ((wanted (coming_in false answer_limit before.lines got) ≡ Err (Form line))
-    × HasEnded before.left after.left)
-StopsAs takes wanted before after got BadInstance =
+    × EndsHere before.left after.left)
+TextStopsAs takes wanted before after got BadInstance =
     Settles answer_limit wanted before.lines got (Err BadInstance)
-StopsAs takes wanted before after got TooLong =
+TextStopsAs takes wanted before after got TooLong =
     Settles answer_limit wanted before.lines got (Err TooLong)
-StopsAs takes wanted before after got ReadFault =
+TextStopsAs takes wanted before after got ReadFault =
     LeavesOpen answer_limit wanted TooLong before.lines got
-StopsAs takes wanted before after got NoMemory = takes ≡ true
+TextStopsAs takes wanted before after got NoMemory = takes ≡ true
 
 -- at `Ok` the value, whatever comes after the bytes that were read, with those still to come
 abbrev pub ReadsAs : {T : Type 0} → Bool → (Coming → Result (T × Coming) AnswerError) → Stream
@@ -35,20 +35,21 @@ abbrev pub ReadsAs : {T : Type 0} → Bool → (Coming → Result (T × Coming) 
 ReadsAs takes wanted before after got (Ok value) =
     (more : Bool) (rest : List ℕ) → wanted (coming_in more answer_limit before.lines (got ++ rest))
     ≡ Ok (value, coming_in more answer_limit after.lines rest)
-ReadsAs takes wanted before after got (Err error) = StopsAs takes wanted before after got error
+ReadsAs takes wanted before after got (Err error) = TextStopsAs takes wanted before after got error
 
 -- a call answers that the source failed only where the count of faults rose in it, and that it
 -- didn't only where no call of the source failed
-abbrev pub BlamesAs : Stream → Stream → AnswerError → Type 0
-BlamesAs before after (Form line) = IsCalm before after
-BlamesAs before after BadInstance = IsCalm before after
-BlamesAs before after TooLong = IsCalm before after
-BlamesAs before after ReadFault = (before.faults ≤ after.faults) × Rose before.faults after.faults
-BlamesAs before after NoMemory = IsCalm before after
+abbrev pub TextBlamesAs : Stream → Stream → AnswerError → Type 0
+TextBlamesAs before after (Form line) = IsCalm before after
+TextBlamesAs before after BadInstance = IsCalm before after
+TextBlamesAs before after TooLong = IsCalm before after
+TextBlamesAs before after ReadFault =
+    (before.faults ≤ after.faults) × Rose before.faults after.faults
+TextBlamesAs before after NoMemory = IsCalm before after
 
-abbrev pub CountsAs : {T : Type 0} → Stream → Stream → Result T AnswerError → Type 0
-CountsAs before after (Ok value) = IsCalm before after
-CountsAs before after (Err error) = BlamesAs before after error
+abbrev pub TextCountsAs : {T : Type 0} → Stream → Stream → Result T AnswerError → Type 0
+TextCountsAs before after (Ok value) = IsCalm before after
+TextCountsAs before after (Err error) = TextBlamesAs before after error
 
 -- What a call does that has this to read, and takes memory or none: no more bytes of the source
 -- are read than needed, and they settle what it answers.
@@ -59,7 +60,7 @@ pub record ReadWith {T : Type 0} (takes : Bool) (wanted : Coming → Result (T �
   pub needed : IsNeeded answer_limit wanted TooLong before.lines got
   pub reads : ReadsAs takes wanted before after got result
   pub count : IfOk result (λ _. AreTaken before.lines after.lines got)
-  pub counts : CountsAs before after result
+  pub counts : TextCountsAs before after result
 
 -- a call that takes no memory
 abbrev pub Read : {T : Type 0} → (Coming → Result (T × Coming) AnswerError) → Stream → Stream
@@ -76,8 +77,8 @@ pub record IsNoEnd (before after : Stream) (error : AnswerError) : Type 0 where
   pub got : List ℕ
   pub consumes : Consumes before.left after.left got
   pub needed : IsNeeded answer_limit end_of TooLong before.lines got
-  pub stops : StopsAs false end_of before after got error
-  pub counts : BlamesAs before after error
+  pub stops : TextStopsAs false end_of before after got error
+  pub counts : TextBlamesAs before after error
 
 -- what a call reads where the answer is to end
 abbrev pub EndRead : Stream → Stream → Result ⊤ AnswerError → Type 0

@@ -16,8 +16,8 @@ pub enum Command {
     Resume {
         /// How many leases may be given, 0 to 1,000,000. Those that the answer's splits took count.
         budget: u32,
-        /// How many squares may be open at a time, 1 to 1,000,000; as many as in the answer where it
-        /// isn't said.
+        /// How many squares may be open at a time, 1 to 1,000,000; as many as in the answer
+        /// where it isn't said.
         pool: Option<u32>,
         /// How many workers, 1 to 64.
         workers: u32,

@@ -1,5 +1,5 @@
 -- What the code computes on one axis is what the definitions say of it.
-use Rattle.std.proofs.Common.{◌≡◌, ℕ, ◌+◌, ◌*◌, ◌^◌, ◌≤◌, max, ℤ, pos, ◌+ℤ◌, ◌-ℤ◌, ◌*ℤ◌, ◌≤ℤ◌, w32, w64, to_z, of_z, sym, ap, ◌∙◌, arith}
+use Rattle.std.proofs.Common.{◌≡◌, ℕ, Bool, true, false, cond, refl, ◌+◌, ◌*◌, ◌^◌, ◌≤◌, max, ℤ, pos, ◌+ℤ◌, ◌-ℤ◌, ◌*ℤ◌, ◌≤ℤ◌, w32, w64, to_z, of_z, sym, ap, ◌∙◌, arith}
 use Rattle.std.specs.Prelude.{unsigned_abs}
 use Rattle.std.specs.Int.{int_max}
 use Rattle.std.proofs.lemmas.Int.{ints, clamps}
@@ -85,6 +85,45 @@ near-passed low side a len u span small e =
 pub far-passed : (low side a : ℤ) (len u : ℕ) → IsSpan low side len → unsigned_abs a ≤ 65536000000 → u ≡ max (unsigned_abs (passed low -ℤ passed a)) (unsigned_abs (end_passed low side -ℤ passed a)) → u ≡ far_on low len a
 far-passed low side a len u span small e =
     e ∙ rw (end-passed low side len span, start-passed low side len span, place-passed a small)
+
+-- ---- by exchanged ends of a span
+end_passed-twice : (a z : ℤ) → unsigned_abs a ≤ 2 ^ 38 → z ≡ passed a → passed z ≡ a
+end_passed-twice a z h e =
+    let is : passed a ≡ a = same_in _ _ (omega (arith, ints)) in
+    ap (λ z. passed z) e ∙ ap (λ z. passed z) is ∙ is
+
+-- what is computed of two ends and a place, all three passed
+abbrev pub way_passed : ℤ → ℤ → ℤ → ℕ
+way_passed start stop a = unsigned_abs (int_max (pos 0) (int_max (passed start -ℤ passed a) (passed a -ℤ passed stop)))
+
+greatest_size : (p q : ℤ) → pos 0 ≤ℤ (p +ℤ q) → unsigned_abs (int_max (pos 0) (int_max p q)) ≡ max (unsigned_abs q) (unsigned_abs p)
+greatest_size p q h = omega (arith, ints, clamps)
+
+other_way : (a b : ℤ) → unsigned_abs (a -ℤ b) ≡ unsigned_abs (b -ℤ a)
+other_way a b = omega (arith, ints)
+
+both_ways : (low high a : ℤ) → low ≤ℤ high → pos 0 ≤ℤ ((high -ℤ a) +ℤ (a -ℤ low))
+both_ways low high a h = omega (arith, ints)
+
+-- how far a lies outside of the exchanged ends is how far it lies from the farther end
+pub exchanged_ends : (low high a start stop : ℤ) (n : ℕ) → unsigned_abs low ≤ 2 ^ 38 → unsigned_abs high ≤ 2 ^ 38 → unsigned_abs a ≤ 65536000000 → low ≤ℤ high → start ≡ passed high → stop ≡ passed low → n ≡ way_passed start stop a → n ≡ max (unsigned_abs (low -ℤ a)) (unsigned_abs (high -ℤ a))
+exchanged_ends low high a start stop n l h s order first last e =
+    e ∙ rw (end_passed-twice high start h first, end_passed-twice low stop l last, place-passed a s)
+    (greatest_size (high -ℤ a) (a -ℤ low) (both_ways low high a order) ∙ ap (λ n. max n (unsigned_abs (high -ℤ a))) (other_way a low))
+
+-- the ends as they are
+pub same_ends : (low high a start stop : ℤ) (n : ℕ) → unsigned_abs low ≤ 2 ^ 38 → unsigned_abs high ≤ 2 ^ 38 → unsigned_abs a ≤ 65536000000 → start ≡ passed low → stop ≡ passed high → n ≡ way_passed start stop a → n ≡ unsigned_abs (int_max (pos 0) (int_max (low -ℤ a) (a -ℤ high)))
+same_ends low high a start stop n l h s first last e =
+    e ∙ rw (end_passed-twice low start l first, end_passed-twice high stop h last, place-passed a s) refl
+
+-- the end of a span isn't before its start
+pub end-after : (low side : ℤ) (len : ℕ) → IsSpan low side len → passed low ≤ℤ end_passed low side
+end-after low side len h = omega (arith, ints)
+
+-- what is one number where far, and else another
+pub by_far : (far : Bool) (r m n : ℕ) → (far ≡ true → r ≡ m) → (far ≡ false → r ≡ n) → r ≡ cond far m n
+by_far true r m n h k = h refl
+by_far false r m n h k = k refl
 
 -- ---- both axes
 pub near2-from : (s : Square) (a : Place) (ax ay : ℤ) (u v r : ℕ) → ax ≡ pos 65536 *ℤ a.x → ay ≡ pos 65536 *ℤ a.y → u ≡ unsigned_abs (near_on s.x (2 ^ s.level) ax) → v ≡ unsigned_abs (near_on s.y (2 ^ s.level) ay) → r ≡ u * u + v * v → r ≡ near2 s a

@@ -5,7 +5,8 @@
 #![tactic(auto)]
 
 ghost use Rattle.std.specs.Prelude.{◌≡◌, ◌*◌, ◌+◌, ◌^◌, ◌<◌, ◌≤◌, pos};
-ghost use Rattle.std.specs.Prelude.{◌-ℤ◌, ◌*ℤ◌, unsigned_abs, max, true};
+ghost use Rattle.std.specs.Prelude.{◌-ℤ◌, ◌*ℤ◌, ◌≤ℤ◌, unsigned_abs, max};
+ghost use Rattle.std.specs.Prelude.{true, false, if◌then◌else◌};
 ghost use Rattle.std.specs.Int.{int_max};
 ghost use Rattle.siting_definitions.specs.declared.TheConstants.{COORDINATE_LIMIT, UNIT};
 ghost use Rattle.siting_definitions.specs.Point.{Point, point_of};
@@ -29,11 +30,7 @@ pub fn near2(sq: Square, a: Place) -> u128
         → result * (p.q * p.q) ≤ 2 ^ 32 * distance2 a p }
     ensures size { result ≤ longest * longest }
 {
-    let side = sq.side_len();
-    sum_of_squares(
-        way_outside(sq.x, sq.x + side, on_grid(a.x)),
-        way_outside(sq.y, sq.y + side, on_grid(a.y)),
-    )
+    near_or_far2(sq, a, false)
 }
 
 /// The greatest squared distance from `a` to the closed square, in grid units squared.
@@ -43,10 +40,20 @@ pub fn far2(sq: Square, a: Place) -> u128
         → 2 ^ 32 * distance2 a p ≤ result * (p.q * p.q) }
     ensures size { result ≤ longest * longest }
 {
+    near_or_far2(sq, a, true)
+}
+
+/// The greatest squared distance from `a` to the closed square if `far`, and else the least, in
+/// grid units squared.
+#[inline(always)]
+pub fn near_or_far2(sq: Square, a: Place, far: bool) -> u128
+    ensures value { result ≡ if far then bounds.far2 sq a else bounds.near2 sq a }
+    ensures size { result ≤ longest * longest }
+{
     let side = sq.side_len();
     sum_of_squares(
-        way_to_far_end(sq.x, sq.x + side, on_grid(a.x)),
-        way_to_far_end(sq.y, sq.y + side, on_grid(a.y)),
+        way_to_end(sq.x, sq.x + side, on_grid(a.x), far),
+        way_to_end(sq.y, sq.y + side, on_grid(a.y), far),
     )
 }
 
@@ -83,16 +90,33 @@ fn way_outside(low: i64, high: i64, a: i64) -> u64
     (low - a).max(a - high).max(0) as u64
 }
 
-/// How far `a` lies from the farther end of the span from `low` to `high`, in grid units.
+/// How far `a` lies from the farther end of the span from `low` to `high` if `far`, and else how
+/// far outside of the span, in grid units. The one is the other with the ends exchanged.
 #[inline(always)]
-fn way_to_far_end(low: i64, high: i64, a: i64) -> u64
+fn way_to_end(low: i64, high: i64, a: i64, far: bool) -> u64
     requires low { IsWithinSquares low }
     requires high { IsWithinSquares high }
+    requires order { low ≤ℤ high }
     requires a { unsigned_abs a ≤ UNIT * COORDINATE_LIMIT }
-    ensures value { result ≡ max (unsigned_abs (low -ℤ a)) (unsigned_abs (high -ℤ a)) }
+    ensures far { far ≡ true
+        → result ≡ max (unsigned_abs (low -ℤ a)) (unsigned_abs (high -ℤ a)) }
+    ensures near { far ≡ false
+        → result ≡ unsigned_abs (int_max (pos 0) (int_max (low -ℤ a) (a -ℤ high))) }
     ensures size { result ≤ longest_way }
 {
-    low.abs_diff(a).max(high.abs_diff(a))
+    way_outside(one_of(far, high, low), one_of(far, low, high), a)
+}
+
+/// The first number or the second.
+#[inline(always)]
+fn one_of(is_first: bool, first: i64, second: i64) -> i64
+    requires first { IsWithinSquares first }
+    requires second { IsWithinSquares second }
+    ensures first { is_first ≡ true → result ≡ first }
+    ensures second { is_first ≡ false → result ≡ second }
+    ensures size { IsWithinSquares result }
+{
+    if is_first { first } else { second }
 }
 
 /// How far two coordinates are apart, in grid units.

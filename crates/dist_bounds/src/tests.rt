@@ -37,6 +37,16 @@ fn distances_to_squares(rt: HostRuntime) {
     for (square, place, near, far) in table {
         assert_eq!(rt; near2(square, place), near, "{place:?} to {square:?}");
         assert_eq!(rt; far2(square, place), far, "{place:?} to {square:?}");
+        assert_eq!(rt;
+            near_or_far2(square, place, false),
+            near,
+            "{place:?} to {square:?}"
+        );
+        assert_eq!(rt;
+            near_or_far2(square, place, true),
+            far,
+            "{place:?} to {square:?}"
+        );
     }
     assert_eq!(rt; distance2(Pt::of(3, -4), Place::of(0, 0)), 25);
     assert_eq!(rt;

@@ -19,10 +19,10 @@ use Rattle.instance_text.proofs.ReadsBack.{weight-append}
 
 -- ---- only the rows that count are taken
 -- these rows, one after another, give this instance
-Takes : List (List (List ℕ)) → Found → Instance → Type 0
-Takes [] found i = finish found.phase found ≡ Ok i
-Takes ([] ∷ rows) found i = ⊥
-Takes ((word ∷ fields) ∷ rows) found i = (next : Found) × (take_fields found.phase (word ∷ fields) found ≡ Ok next) × Takes rows next i
+TakesRows : List (List (List ℕ)) → Found → Instance → Type 0
+TakesRows [] found i = finish found.phase found ≡ Ok i
+TakesRows ([] ∷ rows) found i = ⊥
+TakesRows ((word ∷ fields) ∷ rows) found i = (next : Found) × (take_fields found.phase (word ∷ fields) found ≡ Ok next) × TakesRows rows next i
 
 -- a row before others: what it makes of what was found, and what the others make of that
 taken_then : (line : ℕ) (step : Result Found ℕ) (rows : List (List (List ℕ))) (i : Instance)
@@ -33,27 +33,27 @@ taken_then line step rows i is =
     (parts.0, at_line-ok line step parts.0 parts.1.0, parts.1.1)
 
 -- the rows of a text that was read
-takes_rows : (rows : List (List (List ℕ))) (line : ℕ) (found : Found) (i : Instance) → read_rows line rows found ≡ Ok i → Takes (counted_rows rows) found i
-unfolding Takes
+takes_rows : (rows : List (List (List ℕ))) (line : ℕ) (found : Found) (i : Instance) → read_rows line rows found ≡ Ok i → TakesRows (counted_rows rows) found i
+unfolding TakesRows
 takes_rows [] line found i is = at_line-ok line (finish found.phase found) i is
 takes_rows ([] ∷ rows) line found i is = takes_rows rows (line + 1) found i is
 takes_rows ((word ∷ fields) ∷ rows) line found i is = by_row (λ next e. takes_rows rows (line + 1) next i e) (cases_Bool (is_passed_over (word ∷ fields)))
   where
-    by_row : ((next : Found) → read_rows (line + 1) rows next ≡ Ok i → Takes (counted_rows rows) next i)
-        → (is_passed_over (word ∷ fields) ≡ true) ⊎ (is_passed_over (word ∷ fields) ≡ false) → Takes (counted_rows ((word ∷ fields) ∷ rows)) found i
+    by_row : ((next : Found) → read_rows (line + 1) rows next ≡ Ok i → TakesRows (counted_rows rows) next i)
+        → (is_passed_over (word ∷ fields) ≡ true) ⊎ (is_passed_over (word ∷ fields) ≡ false) → TakesRows (counted_rows ((word ∷ fields) ∷ rows)) found i
     by_row later (inl passed) = rw passed (later found (rw passed at is))
     by_row later (inr counts) =
         let step = taken_then line (take_fields found.phase (word ∷ fields) found) rows i (rw counts at is) in
         rw counts (step.0, step.1, later step.0 step.2)
 
 -- and back
-rows_read : (rows : List (List (List ℕ))) (line : ℕ) (found : Found) (i : Instance) → Takes (counted_rows rows) found i → read_rows line rows found ≡ Ok i
-unfolding Takes
+rows_read : (rows : List (List (List ℕ))) (line : ℕ) (found : Found) (i : Instance) → TakesRows (counted_rows rows) found i → read_rows line rows found ≡ Ok i
+unfolding TakesRows
 rows_read [] line found i takes = ap (at_line line) takes
 rows_read ([] ∷ rows) line found i takes = rows_read rows (line + 1) found i takes
 rows_read ((word ∷ fields) ∷ rows) line found i takes = by_row (λ next t. rows_read rows (line + 1) next i t) (cases_Bool (is_passed_over (word ∷ fields)))
   where
-    by_row : ((next : Found) → Takes (counted_rows rows) next i → read_rows (line + 1) rows next ≡ Ok i)
+    by_row : ((next : Found) → TakesRows (counted_rows rows) next i → read_rows (line + 1) rows next ≡ Ok i)
         → (is_passed_over (word ∷ fields) ≡ true) ⊎ (is_passed_over (word ∷ fields) ≡ false) → read_rows line ((word ∷ fields) ∷ rows) found ≡ Ok i
     by_row later (inl passed) = rw passed (later found (rw passed at takes))
     by_row later (inr counts) =
@@ -218,9 +218,9 @@ ended kind points permitted forbidden =
 
 -- after the end no row counts
 after_end : (rows : List (List (List ℕ))) (kind : Kind) (points : List DemandPt) (permitted forbidden : List (List Place)) (i : Instance)
-    → Takes rows (ended kind points permitted forbidden) i
+    → TakesRows rows (ended kind points permitted forbidden) i
     → (rows ≡ []) × (i ≡ record { kind = kind; points = points; permitted = permitted; forbidden = forbidden })
-unfolding Takes
+unfolding TakesRows
 after_end [] kind points permitted forbidden i takes = (refl, cc)
 after_end ([] ∷ rows) kind points permitted forbidden i takes = absurd takes
 after_end ((word ∷ fields) ∷ rows) kind points permitted forbidden i takes = let no = takes.1 in absurd cc
@@ -229,15 +229,15 @@ after_end ((word ∷ fields) ∷ rows) kind points permitted forbidden i takes =
 abbrev AreBody : Bool → Instance → List (List (List ℕ)) → Type 0
 AreBody cutoffs i rows =
     (kind : Option Kind) (points : List DemandPt) (permitted forbidden : List (List Place))
-    → Takes rows (body cutoffs kind points permitted forbidden) i → SaysBody cutoffs kind points permitted forbidden rows i
+    → TakesRows rows (body cutoffs kind points permitted forbidden) i → SaysBody cutoffs kind points permitted forbidden rows i
 
 -- the row of the kind, of a point, of a polygon, and rows that are of the body
 says_kind : (cutoffs : Bool) (i : Instance) (fields : List (List ℕ)) (rows : List (List (List ℕ))) → AreBody cutoffs i rows
     → AreBody cutoffs i ((codes "kind" ∷ fields) ∷ rows)
-unfolding Takes take_row KindFits
+unfolding TakesRows take_row KindFits
 says_kind cutoffs i fields rows later kind points permitted forbidden takes =
     let step = kind_taken cutoffs kind points permitted forbidden (kind_row fields) takes.0 takes.1 in
-    let rest = later (Some step.1) points permitted forbidden (subst (λ (next : Found). Takes rows next i) (sym step.3) takes.2) in
+    let rest = later (Some step.1) points permitted forbidden (subst (λ (next : Found). TakesRows rows next i) (sym step.3) takes.2) in
     let says = rest.says in
     subst (λ (k : Option Kind). SaysBody cutoffs k points permitted forbidden ((codes "kind" ∷ fields) ∷ rows) i) (sym step.0)
     (row_before cutoffs None (Some step.1) points points permitted forbidden permitted forbidden (codes "kind" ∷ fields) rows i refl rest
@@ -251,10 +251,10 @@ says_kind cutoffs i fields rows later kind points permitted forbidden takes =
 -- a point
 says_point : (cutoffs : Bool) (i : Instance) (fields : List (List ℕ)) (rows : List (List (List ℕ))) → AreBody cutoffs i rows
     → AreBody cutoffs i ((codes "point" ∷ fields) ∷ rows)
-unfolding Takes take_row
+unfolding TakesRows take_row
 says_point cutoffs i fields rows later kind points permitted forbidden takes =
     let step = point_taken cutoffs kind points permitted forbidden (point_row cutoffs fields) takes.0 takes.1 in
-    let rest = later kind (points ++ step.0 ∷ []) permitted forbidden (subst (λ (next : Found). Takes rows next i) (sym step.2) takes.2) in
+    let rest = later kind (points ++ step.0 ∷ []) permitted forbidden (subst (λ (next : Found). TakesRows rows next i) (sym step.2) takes.2) in
     let says = rest.says in
     row_before cutoffs kind kind points (points ++ step.0 ∷ []) permitted forbidden permitted forbidden (codes "point" ∷ fields) rows i refl rest
     (record {
@@ -267,10 +267,10 @@ says_point cutoffs i fields rows later kind points permitted forbidden takes =
 -- a permitted polygon
 says_permit : (cutoffs : Bool) (i : Instance) (fields : List (List ℕ)) (rows : List (List (List ℕ))) → AreBody cutoffs i rows
     → AreBody cutoffs i ((codes "permit" ∷ fields) ∷ rows)
-unfolding Takes take_row
+unfolding TakesRows take_row
 says_permit cutoffs i fields rows later kind points permitted forbidden takes =
     let step = permit_taken cutoffs kind points permitted forbidden (polygon_row fields) takes.0 takes.1 in
-    let rest = later kind points (permitted ++ step.0 ∷ []) forbidden (subst (λ (next : Found). Takes rows next i) (sym step.2) takes.2) in
+    let rest = later kind points (permitted ++ step.0 ∷ []) forbidden (subst (λ (next : Found). TakesRows rows next i) (sym step.2) takes.2) in
     let says = rest.says in
     row_before cutoffs kind kind points points permitted forbidden (permitted ++ step.0 ∷ []) forbidden (codes "permit" ∷ fields) rows i refl rest
     (record {
@@ -283,10 +283,10 @@ says_permit cutoffs i fields rows later kind points permitted forbidden takes =
 -- a forbidden polygon
 says_forbid : (cutoffs : Bool) (i : Instance) (fields : List (List ℕ)) (rows : List (List (List ℕ))) → AreBody cutoffs i rows
     → AreBody cutoffs i ((codes "forbid" ∷ fields) ∷ rows)
-unfolding Takes take_row
+unfolding TakesRows take_row
 says_forbid cutoffs i fields rows later kind points permitted forbidden takes =
     let step = forbid_taken cutoffs kind points permitted forbidden (polygon_row fields) takes.0 takes.1 in
-    let rest = later kind points permitted (forbidden ++ step.0 ∷ []) (subst (λ (next : Found). Takes rows next i) (sym step.2) takes.2) in
+    let rest = later kind points permitted (forbidden ++ step.0 ∷ []) (subst (λ (next : Found). TakesRows rows next i) (sym step.2) takes.2) in
     let says = rest.says in
     row_before cutoffs kind kind points points permitted forbidden permitted (forbidden ++ step.0 ∷ []) (codes "forbid" ∷ fields) rows i refl rest
     (record {
@@ -298,7 +298,7 @@ says_forbid cutoffs i fields rows later kind points permitted forbidden takes =
 
 -- the end, where something of each sort was found
 says_end : (cutoffs : Bool) (i : Instance) (fields : List (List ℕ)) (rows : List (List (List ℕ))) → AreBody cutoffs i ((codes "end" ∷ fields) ∷ rows)
-unfolding Takes take_row KindFits
+unfolding TakesRows take_row KindFits
 says_end cutoffs i (field ∷ fields) rows kind points permitted forbidden takes = let no = takes.1 in absurd cc
 says_end cutoffs i [] rows None points permitted forbidden takes = let no = takes.1 in absurd cc
 says_end cutoffs i [] rows (Some k) [] permitted forbidden takes = let no = takes.1 in absurd cc
@@ -306,7 +306,7 @@ says_end cutoffs i [] rows (Some k) (d ∷ ds) [] forbidden takes = let no = tak
 says_end cutoffs i [] rows (Some k) (d ∷ ds) (p ∷ ps) forbidden takes =
     let made = takes.1 in
     let same : takes.0 ≡ ended k (d ∷ ds) (p ∷ ps) forbidden = cc in
-    let last = after_end rows k (d ∷ ds) (p ∷ ps) forbidden i (subst (λ (next : Found). Takes rows next i) same takes.2) in
+    let last = after_end rows k (d ∷ ds) (p ∷ ps) forbidden i (subst (λ (next : Found). TakesRows rows next i) same takes.2) in
     let is = last.1 in
     record {
       between = [];
@@ -323,7 +323,7 @@ says_end cutoffs i [] rows (Some k) (d ∷ ds) (p ∷ ps) forbidden takes =
 -- a row that is none of these is not taken
 says_other : (cutoffs : Bool) (i : Instance) (word : List ℕ) (fields : List (List ℕ)) (rows : List (List (List ℕ))) → IsOther word
     → AreBody cutoffs i ((word ∷ fields) ∷ rows)
-unfolding Takes take_row
+unfolding TakesRows take_row
 says_other cutoffs i word fields rows other kind points permitted forbidden takes =
     let no = rw (other.kind, other.point, other.permit, other.forbid, other.end) at takes.1 in absurd cc
 
@@ -344,7 +344,7 @@ says_row cutoffs i word fields rows later (inr (inr (inr (inr (inr other))))) = 
 
 -- rows that are all taken are rows of the body, and the end
 says_body : (rows : List (List (List ℕ))) (cutoffs : Bool) (i : Instance) → AreBody cutoffs i rows
-unfolding Takes
+unfolding TakesRows
 says_body [] cutoffs i kind points permitted forbidden takes = absurd cc
 says_body ([] ∷ rows) cutoffs i kind points permitted forbidden takes = absurd takes
 says_body ((word ∷ fields) ∷ rows) cutoffs i kind points permitted forbidden takes =
@@ -355,7 +355,7 @@ says_body ((word ∷ fields) ∷ rows) cutoffs i kind points permitted forbidden
 abbrev AreTaken : Bool → Instance → List (List (List ℕ)) → Type 0
 AreTaken cutoffs i rows =
     (kind : Option Kind) (points : List DemandPt) (permitted forbidden : List (List Place))
-    → SaysRest cutoffs kind points permitted forbidden rows i → Takes (rows ++ end_row ∷ []) (body cutoffs kind points permitted forbidden) i
+    → SaysRest cutoffs kind points permitted forbidden rows i → TakesRows (rows ++ end_row ∷ []) (body cutoffs kind points permitted forbidden) i
 
 -- the end is taken where a kind, a point and a permitted polygon were found
 end_taken : (cutoffs : Bool) (kind : Kind) (points : List DemandPt) (permitted forbidden : List (List Place)) → 1 ≤ length points → 1 ≤ length permitted
@@ -373,7 +373,7 @@ same_instance i kind points permitted forbidden a b c d = rw (a, ← b, ← c, �
 
 -- the end alone, where all of the instance was found
 takes_end : (cutoffs : Bool) (i : Instance) → IsInstance i → AreTaken cutoffs i []
-unfolding Takes KindFits
+unfolding TakesRows KindFits
 takes_end cutoffs i is None points permitted forbidden says = let no = says.kind_said in absurd cc
 takes_end cutoffs i is (Some k) points permitted forbidden says =
     let same_points : i.points ≡ points = none_left points i.points says.points_said in
@@ -413,7 +413,7 @@ polygon_taken_in row p polygons is few = rw (is, lt-leb 64 (length polygons) few
 -- the row of the kind, of a point, of a polygon, and rows that are taken
 takes_kind : (cutoffs : Bool) (i : Instance) (fields : List (List ℕ)) (rows : List (List (List ℕ))) → AreTaken cutoffs i rows
     → AreTaken cutoffs i ((codes "kind" ∷ fields) ∷ rows)
-unfolding Takes take_row KindFits
+unfolding TakesRows take_row KindFits
 takes_kind cutoffs i fields rows later (Some k) points permitted forbidden says = let no = says.kind_said.0 in absurd cc
 takes_kind cutoffs i fields rows later None points permitted forbidden says =
     let all = says.kind_said in
@@ -433,7 +433,7 @@ takes_kind cutoffs i fields rows later None points permitted forbidden says =
 -- a point
 takes_point : (cutoffs : Bool) (i : Instance) → IsInstance i → (fields : List (List ℕ)) (rows : List (List (List ℕ))) → AreTaken cutoffs i rows
     → AreTaken cutoffs i ((codes "point" ∷ fields) ∷ rows)
-unfolding Takes take_row
+unfolding TakesRows take_row
 takes_point cutoffs i is fields rows later kind points permitted forbidden says =
     let first = first_said (point_row cutoffs fields) _ points i.points says.points_said in
     let few = fewer points first.0 _ i.points 4096 first.2 is.many_points in
@@ -452,7 +452,7 @@ takes_point cutoffs i is fields rows later kind points permitted forbidden says 
 -- a permitted polygon
 takes_permit : (cutoffs : Bool) (i : Instance) → IsInstance i → (fields : List (List ℕ)) (rows : List (List (List ℕ))) → AreTaken cutoffs i rows
     → AreTaken cutoffs i ((codes "permit" ∷ fields) ∷ rows)
-unfolding Takes take_row
+unfolding TakesRows take_row
 takes_permit cutoffs i is fields rows later kind points permitted forbidden says =
     let first = first_said (polygon_row fields) _ permitted i.permitted says.permitted_said in
     let few = fewer permitted first.0 _ i.permitted 64 first.2 is.many_permitted in (
@@ -471,7 +471,7 @@ takes_permit cutoffs i is fields rows later kind points permitted forbidden says
 -- a forbidden polygon
 takes_forbid : (cutoffs : Bool) (i : Instance) → IsInstance i → (fields : List (List ℕ)) (rows : List (List (List ℕ))) → AreTaken cutoffs i rows
     → AreTaken cutoffs i ((codes "forbid" ∷ fields) ∷ rows)
-unfolding Takes take_row
+unfolding TakesRows take_row
 takes_forbid cutoffs i is fields rows later kind points permitted forbidden says =
     let first = first_said (polygon_row fields) _ forbidden i.forbidden says.forbidden_said in
     let few = fewer forbidden first.0 _ i.forbidden 64 first.2 is.many_forbidden in (
@@ -512,9 +512,9 @@ takes_body ((word ∷ fields) ∷ rows) cutoffs i is words =
 
 -- ---- the whole text
 -- the header comes first
-begins : (rows : List (List (List ℕ))) (i : Instance) → Takes rows nothing_found i
-    → (cutoffs : Bool) × (later : List (List (List ℕ))) × (rows ≡ header_row cutoffs ∷ later) × Takes later (body cutoffs None [] [] []) i
-unfolding Takes
+begins : (rows : List (List (List ℕ))) (i : Instance) → TakesRows rows nothing_found i
+    → (cutoffs : Bool) × (later : List (List (List ℕ))) × (rows ≡ header_row cutoffs ∷ later) × TakesRows later (body cutoffs None [] [] []) i
+unfolding TakesRows
 begins [] i takes = absurd cc
 begins ([] ∷ rows) i takes = absurd takes
 begins ((word ∷ []) ∷ rows) i takes = let no = takes.1 in absurd cc
@@ -527,10 +527,10 @@ begins ((word ∷ version ∷ []) ∷ rows) i takes =
     Begun : Type 0
     Begun =
         (cutoffs : Bool) × (later : List (List (List ℕ))) × ((word ∷ version ∷ []) ∷ rows ≡ header_row cutoffs ∷ later)
-        × Takes later (body cutoffs None [] [] []) i
+        × TakesRows later (body cutoffs None [] [] []) i
 
     begun : (cutoffs : Bool) → word ≡ codes "siting" → version ≡ cond cutoffs (codes "2") (codes "1") → body cutoffs None [] [] [] ≡ takes.0 → Begun
-    begun cutoffs siting same next = (cutoffs, rows, rw (siting, same) refl, subst (λ (found : Found). Takes rows found i) (sym next) takes.2)
+    begun cutoffs siting same next = (cutoffs, rows, rw (siting, same) refl, subst (λ (found : Found). TakesRows rows found i) (sym next) takes.2)
 
     by_version : word ≡ codes "siting" → take_version version nothing_found ≡ Ok takes.0
         → (bytes_eq version (codes "1") ≡ true) ⊎ (bytes_eq version (codes "1") ≡ false)
@@ -567,7 +567,7 @@ header_taken false = refl
 
 -- a text whose rows say an instance is read as it
 pub reading-rows_of : (bytes : List ℕ) (i : Instance) → IsInstanceText bytes i → reading bytes ≡ Ok i
-unfolding reading Takes KindFits
+unfolding reading TakesRows KindFits
 reading-rows_of bytes i text =
     let says : SaysRest text.cutoffs None [] [] [] text.body i = record {
       kind_said = text.kind;
@@ -577,4 +577,4 @@ reading-rows_of bytes i text =
     } in
     let taken = takes_body text.body text.cutoffs i text.limits text.words None [] [] [] says in
     rows_read (rows_of bytes) 1 nothing_found i
-    (subst (λ (rows : List (List (List ℕ))). Takes rows nothing_found i) (sym text.rows) (body text.cutoffs None [] [] [], header_taken text.cutoffs, taken))
+    (subst (λ (rows : List (List (List ℕ))). TakesRows rows nothing_found i) (sym text.rows) (body text.cutoffs None [] [] [], header_taken text.cutoffs, taken))

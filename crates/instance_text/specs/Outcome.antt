@@ -22,10 +22,10 @@ Says (Err (LineFault number)) row = row ≡ Err number
 Says (Err NoLineMemory) row = ⊤
 
 -- what there was became what a line makes of it
-abbrev pub Takes : {T U : Type 0} → Result T LineError → Result U ℕ → U → Type 0
-Takes (Ok value) row now = row ≡ Ok now
-Takes (Err (LineFault number)) row now = row ≡ Err number
-Takes (Err NoLineMemory) row now = ⊤
+abbrev pub TakesLine : {T U : Type 0} → Result T LineError → Result U ℕ → U → Type 0
+TakesLine (Ok value) row now = row ≡ Ok now
+TakesLine (Err (LineFault number)) row now = row ≡ Err number
+TakesLine (Err NoLineMemory) row now = ⊤
 
 -- the error of a text of which this is a line's
 abbrev pub error_at : ℕ → LineError → InstanceError

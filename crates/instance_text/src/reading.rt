@@ -3,7 +3,7 @@
 ghost use Rattle.std.specs.Prelude.{◌≡◌, Ok, OnErr};
 ghost use Rattle.text_lines.specs.Lines.{fields_of};
 ghost use Rattle.instance_text.specs.Reading.{add_polygon};
-ghost use Rattle.instance_text.specs.Outcome.{Takes};
+ghost use Rattle.instance_text.specs.Outcome.{TakesLine};
 
 use crate::faults::{
     AFTER_END, BAD_HEADER, BAD_LINE, LineError, NO_END, NO_KIND, NO_PERMIT, NO_POINT,
@@ -60,7 +60,7 @@ impl Reading {
 
     /// Takes a line.
     pub(crate) fn take_line(&mut self, alloc: Global, line: &[u8]) -> Result<(), LineError>
-        ensures { Takes result (readings.take_line (fields_of line.now) self.old) self.new }
+        ensures { TakesLine result (readings.take_line (fields_of line.now) self.old) self.new }
     {
         if is_passed_over(line) {
             return Ok(());
@@ -76,7 +76,7 @@ impl Reading {
     }
 
     fn take_header(&mut self, fields: &[u8]) -> Result<(), LineError>
-        ensures { Takes result (readings.take_header (fields_of fields.now) self.old) self.new }
+        ensures { TakesLine result (readings.take_header (fields_of fields.now) self.old) self.new }
     {
         let Some((word, rest)) = next_field(fields) else {
             return Err(LineError::Fault(BAD_HEADER));
@@ -91,7 +91,7 @@ impl Reading {
     }
 
     fn take_version(&mut self, version: &[u8]) -> Result<(), LineError>
-        ensures { Takes result (readings.take_version version.now self.old) self.new }
+        ensures { TakesLine result (readings.take_version version.now self.old) self.new }
     {
         if says(version, b"1") {
             self.phase = Phase::Body(false);
@@ -112,7 +112,7 @@ impl Reading {
         word: &[u8],
         fields: &[u8],
     ) -> Result<(), LineError>
-        ensures { Takes result
+        ensures { TakesLine result
             (readings.take_row cutoffs word.now (fields_of fields.now) self.old) self.new }
     {
         if says(word, b"kind") {
@@ -131,7 +131,7 @@ impl Reading {
     }
 
     fn take_kind(&mut self, kind: Kind) -> Result<(), LineError>
-        ensures { Takes result (readings.take_kind (Ok kind) self.old) self.new }
+        ensures { TakesLine result (readings.take_kind (Ok kind) self.old) self.new }
     {
         if self.kind.is_some() {
             return Err(LineError::Fault(TWO_KINDS));
@@ -142,7 +142,7 @@ impl Reading {
 
     #[tactic(auto, using(crate::proofs::Limits::weight_push))]
     fn take_point(&mut self, point: DemandPt) -> Result<(), LineError>
-        ensures { Takes result (readings.take_point (Ok point) self.old) self.new }
+        ensures { TakesLine result (readings.take_point (Ok point) self.old) self.new }
     {
         if self.points.len() >= POINT_LIMIT {
             return Err(LineError::Fault(TOO_MANY_POINTS));
@@ -159,19 +159,19 @@ impl Reading {
     }
 
     fn take_permit(&mut self, polygon: Polygon) -> Result<(), LineError>
-        ensures { Takes result (readings.take_permit (Ok polygon) self.old) self.new }
+        ensures { TakesLine result (readings.take_permit (Ok polygon) self.old) self.new }
     {
         push_polygon(&mut self.permitted, polygon)
     }
 
     fn take_forbid(&mut self, polygon: Polygon) -> Result<(), LineError>
-        ensures { Takes result (readings.take_forbid (Ok polygon) self.old) self.new }
+        ensures { TakesLine result (readings.take_forbid (Ok polygon) self.old) self.new }
     {
         push_polygon(&mut self.forbidden, polygon)
     }
 
     fn take_end(&mut self, fields: &[u8]) -> Result<(), LineError>
-        ensures { Takes result (readings.take_end (fields_of fields.now) self.old) self.new }
+        ensures { TakesLine result (readings.take_end (fields_of fields.now) self.old) self.new }
     {
         if next_field(fields).is_some() {
             return Err(LineError::Fault(BAD_LINE));
@@ -211,7 +211,8 @@ impl Reading {
 
 /// One polygon more, where there is room for it; else they stay the same.
 fn push_polygon(polygons: &mut Vec<Polygon>, polygon: Polygon) -> Result<(), LineError>
-    ensures more { Takes result (add_polygon (Ok polygon) polygons.old.items) polygons.new.items }
+    ensures more { TakesLine result (add_polygon (Ok polygon) polygons.old.items)
+        polygons.new.items }
     ensures same { OnErr result (polygons.new.items ≡ polygons.old.items) }
 {
     if polygons.len() >= POLYGON_LIMIT {

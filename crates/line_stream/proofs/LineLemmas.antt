@@ -14,8 +14,8 @@ use Rattle.line_stream.specs.declared.lines.LineError.TheVariants.{Missing, Surp
 use Rattle.line_stream.specs.Feeds.{is_no_feed}
 use Rattle.line_stream.specs.Input.{Input, input_of, input_from, onto_lines, with_more}
 use Rattle.line_stream.specs.Coming.{Coming, next_line, input_end}
-use Rattle.line_stream.specs.Stream.{LinesState, Stream, IsCalm, taken, AreTaken, coming_in, Settles, LeavesOpen, IsLastPiece, IsNeeded, HasEnded}
-use Rattle.line_stream.specs.LineReading.{Blames, StopsAs, after_front, Filled, FrontRead, InLine, IsLine, IsStopped, PieceRead, RestRead, LineRead, surplus_of, IsEnd}
+use Rattle.line_stream.specs.Stream.{LinesState, Stream, IsCalm, taken, AreTaken, coming_in, Settles, LeavesOpen, IsLastPiece, IsNeeded, EndsHere}
+use Rattle.line_stream.specs.LineReading.{LineBlames, LineStopsAs, after_front, Filled, FrontRead, InLine, IsLine, IsLineStopped, PieceRead, RestRead, LineRead, surplus_of, IsEnd}
 
 -- ---- a front of a line
 -- nothing before a line leaves it as it is
@@ -153,7 +153,7 @@ Consumes-none None = tt
 Consumes-none (Some bytes) = refl
 
 -- a source that ends after more was read of it ends
-pub ended-then : (a b c : Option (List ℕ)) (got : List ℕ) → Consumes a b got → HasEnded b c → HasEnded a c
+pub ended-then : (a b c : Option (List ℕ)) (got : List ℕ) → Consumes a b got → EndsHere b c → EndsHere a c
 ended-then None b c got gave ends = tt
 ended-then (Some a) None c got gave ends = absurd gave
 ended-then (Some a) (Some b) c got gave ends = ends
@@ -174,7 +174,7 @@ calm-then a b c h k = record {
   quiet = λ strict. k.quiet (subst IsTrue (sym h.same) strict) ∙ h.quiet strict;
 }
 
-blames-then : (a b c : Stream) (error : LineError) → IsCalm a b → Blames b c error → Blames a c error
+blames-then : (a b c : Stream) (error : LineError) → IsCalm a b → LineBlames b c error → LineBlames a c error
 blames-then a b c (Missing line) h blames = calm-then a b c h blames
 blames-then a b c (Surplus line) h blames = calm-then a b c h blames
 blames-then a b c TooLong h blames = calm-then a b c h blames
@@ -274,7 +274,7 @@ module _ (limit : ℕ) where
   in_line-settles a b x got error h settles more rest =
       ap (λ l. next_line (coming_in more limit a.lines l)) (append_assoc h.got got rest) ∙ (h.reads more (got ++ rest) ∙ ap (after_front x) (settles more rest))
 
-  in_line-stops : (a b c : Stream) (x got : List ℕ) (error : LineError) (h : InLine limit a b x) → StopsAs limit next_line b c got error → StopsAs limit next_line a c (h.got ++ got) error
+  in_line-stops : (a b c : Stream) (x got : List ℕ) (error : LineError) (h : InLine limit a b x) → LineStopsAs limit next_line b c got error → LineStopsAs limit next_line a c (h.got ++ got) error
   in_line-stops a b c x got (Missing line) h stops =
       (h.reads false got ∙ ap (after_front x) stops.0, ended-then a.left b.left c.left h.got h.consumes stops.1)
   in_line-stops a b c x got (Surplus line) h stops = in_line-settles a b x got (Surplus line) h stops
@@ -283,7 +283,7 @@ module _ (limit : ℕ) where
       open_after limit next_line TooLong next_line TooLong a.lines b.lines h.got got h.count (λ is. h.reads true got ∙ ap (after_front x) is) stops
 
   -- a front of a line was read, and then no line
-  pub in_line-fails : (a b c : Stream) (x : List ℕ) (error : LineError) → InLine limit a b x → IsStopped limit next_line b c error → IsStopped limit next_line a c error
+  pub in_line-fails : (a b c : Stream) (x : List ℕ) (error : LineError) → InLine limit a b x → IsLineStopped limit next_line b c error → IsLineStopped limit next_line a c error
   in_line-fails a b c x error h k = record {
     got = h.got ++ k.got;
     consumes = Consumes-then a.left b.left c.left h.got k.got h.consumes k.consumes;
@@ -308,7 +308,7 @@ module _ (limit : ℕ) where
   no_bytes [] e = refl
   no_bytes (b ∷ bytes) e = let no : ⊥ = grind arith in absurd no
 
-  ends : (a b : Option (List ℕ)) (now : List ℕ) → now ≡ [] → Consumes a b now → IfSome a (λ left. left ≡ []) → HasEnded a b
+  ends : (a b : Option (List ℕ)) (now : List ℕ) → now ≡ [] → Consumes a b now → IfSome a (λ left. left ≡ []) → EndsHere a b
   ends None b now none gave end = tt
   ends (Some a) None now none gave end = absurd gave
   ends (Some a) (Some b) now none gave end = ap Some (sym (rw none at gave) ∙ end)
@@ -406,7 +406,7 @@ module _ (limit : ℕ) where
   }
 
   -- the input ends within the line
-  pub in_line-missing : (a b c : Stream) (x : List ℕ) (line : ℕ) → InLine limit a b x → Filled limit b c (Ok false) → line ≡ c.lines.line + 1 → IsStopped limit next_line a c (Missing line)
+  pub in_line-missing : (a b c : Stream) (x : List ℕ) (line : ℕ) → InLine limit a b x → Filled limit b c (Ok false) → line ≡ c.lines.line + 1 → IsLineStopped limit next_line a c (Missing line)
   in_line-missing a b c x line h f is =
       let same : line ≡ b.lines.line + 1 = is ∙ ap (λ (s : LinesState). s.line + 1) f.lines in
       in_line-fails a b c x (Missing line) h (record {
@@ -418,7 +418,7 @@ module _ (limit : ℕ) where
       })
 
   -- the source failed within the line
-  pub in_line-failed : (a b c : Stream) (x : List ℕ) (failed : Failed) → InLine limit a b x → Filled limit b c (Err failed) → IsStopped limit next_line a c SourceFailed
+  pub in_line-failed : (a b c : Stream) (x : List ℕ) (failed : Failed) → InLine limit a b x → Filled limit b c (Err failed) → IsLineStopped limit next_line a c SourceFailed
   in_line-failed a b c x failed h f =
       in_line-fails a b c x SourceFailed h (record {
         got = f.got;
@@ -444,7 +444,7 @@ module _ (limit : ℕ) where
       by_ahead (b ∷ ahead) some = over_limit more (limit - s.read) s.line b (ahead ++ rest) none
 
   -- a byte comes that is past the limit
-  pub in_line-over : (a b : Stream) (x : List ℕ) → InLine limit a b x → 0 < length b.lines.ahead → limit - b.lines.read ≡ 0 → IsStopped limit next_line a b TooLong
+  pub in_line-over : (a b : Stream) (x : List ℕ) → InLine limit a b x → 0 < length b.lines.ahead → limit - b.lines.read ≡ 0 → IsLineStopped limit next_line a b TooLong
   in_line-over a b x h some none =
       in_line-fails a b b x TooLong h (record {
         got = [];
@@ -517,16 +517,16 @@ module _ (limit : ℕ) where
       by_test false [] partial goes_on = refl
       by_test false (l ∷ lines) partial goes_on = refl
 
-  surplus_stops : (a b : Stream) (got : List ℕ) (t : Bool) (line : ℕ) → Settles limit input_end a.lines got (Err (cond t TooLong (Surplus line))) → StopsAs limit input_end a b got (cond t TooLong (Surplus line))
+  surplus_stops : (a b : Stream) (got : List ℕ) (t : Bool) (line : ℕ) → Settles limit input_end a.lines got (Err (cond t TooLong (Surplus line))) → LineStopsAs limit input_end a b got (cond t TooLong (Surplus line))
   surplus_stops a b got true line settles = settles
   surplus_stops a b got false line settles = settles
 
-  surplus_blames : (a b : Stream) (t : Bool) (line : ℕ) → IsCalm a b → Blames a b (cond t TooLong (Surplus line))
+  surplus_blames : (a b : Stream) (t : Bool) (line : ℕ) → IsCalm a b → LineBlames a b (cond t TooLong (Surplus line))
   surplus_blames a b true line calm = calm
   surplus_blames a b false line calm = calm
 
   -- a byte comes after the end
-  pub end_surplus : (a b : Stream) (error : LineError) → Filled limit a b (Ok true) → error ≡ surplus_of limit b.lines → IsStopped limit input_end a b error
+  pub end_surplus : (a b : Stream) (error : LineError) → Filled limit a b (Ok true) → error ≡ surplus_of limit b.lines → IsLineStopped limit input_end a b error
   end_surplus a b error f is = rw is (record {
     got = f.got;
     consumes = f.consumes;
@@ -541,7 +541,7 @@ module _ (limit : ℕ) where
       by_ahead more rest (c ∷ ahead) some = end_in more (limit - b.lines.read) b.lines.line c (ahead ++ rest)
 
   -- the source failed where the input was to end
-  pub end_failed : (a b : Stream) (failed : Failed) → Filled limit a b (Err failed) → IsStopped limit input_end a b SourceFailed
+  pub end_failed : (a b : Stream) (failed : Failed) → Filled limit a b (Err failed) → IsLineStopped limit input_end a b SourceFailed
   end_failed a b failed f = record {
     got = f.got;
     consumes = f.consumes;

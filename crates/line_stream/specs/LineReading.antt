@@ -2,6 +2,7 @@
 use Rattle.std.specs.Prelude.{◌≡◌, ℕ, ◌+◌, ◌-◌, ◌<◌, ◌≤◌, ◌==◌, ◌⊎◌, Bool, true, false}
 use Rattle.std.specs.Prelude.{if◌then◌else◌, List, [], ◌++◌, length, Result, Ok, Err, ⊤}
 use Rattle.std.specs.Io.KnownBytes.{Consumes}
+use Rattle.port_io.specs.Bytes.{piece_size}
 use Rattle.port_io.specs.Faults.{Rose}
 use Rattle.port_io.specs.declared.ports.Failed.{Failed}
 use Rattle.line_stream.specs.declared.lines.LineError.{LineError}
@@ -10,27 +11,30 @@ use Rattle.line_stream.specs.declared.lines.LineError.TheVariants.{Failed as Sou
 use Rattle.line_stream.specs.Coming.{Coming, next_line, input_end}
 use Rattle.line_stream.specs.Stream.{LinesState, Stream, IsCalm, taken, AreTaken, coming_in}
 use Rattle.line_stream.specs.Stream.{Settles}
-use Rattle.line_stream.specs.Stream.{LeavesOpen, IsNeeded, HasEnded}
+use Rattle.line_stream.specs.Stream.{LeavesOpen, IsNeeded, EndsHere}
 
 -- a call answers that the source failed only where the count of faults rose in it, and that it
 -- didn't only where no call of the source failed
-abbrev pub Blames : Stream → Stream → LineError → Type 0
-Blames before after (Missing line) = IsCalm before after
-Blames before after (Surplus line) = IsCalm before after
-Blames before after TooLong = IsCalm before after
-Blames before after SourceFailed = (before.faults ≤ after.faults) × Rose before.faults after.faults
+abbrev pub LineBlames : Stream → Stream → LineError → Type 0
+LineBlames before after (Missing line) = IsCalm before after
+LineBlames before after (Surplus line) = IsCalm before after
+LineBlames before after TooLong = IsCalm before after
+LineBlames before after SourceFailed =
+    (before.faults ≤ after.faults) × Rose before.faults after.faults
 
 -- What is known at an error of what was wanted: it is what was to be found, whatever comes after
 -- the bytes read; or the input ended after them; or the source failed, while it was still open.
-abbrev pub StopsAs : {T : Type 0} → ℕ → (Coming → Result T LineError) → Stream → Stream → List ℕ
+abbrev pub LineStopsAs : {T : Type 0} → ℕ → (Coming → Result T LineError) → Stream → Stream → List ℕ
     → LineError → Type 0
-StopsAs limit wanted before after got (Missing line) =
+LineStopsAs limit wanted before after got (Missing line) =
     (wanted (coming_in false limit before.lines got) ≡ Err (Missing line))
-    × HasEnded before.left after.left
-StopsAs limit wanted before after got (Surplus line) =
+    × EndsHere before.left after.left
+LineStopsAs limit wanted before after got (Surplus line) =
     Settles limit wanted before.lines got (Err (Surplus line))
-StopsAs limit wanted before after got TooLong = Settles limit wanted before.lines got (Err TooLong)
-StopsAs limit wanted before after got SourceFailed = LeavesOpen limit wanted TooLong before.lines got
+LineStopsAs limit wanted before after got TooLong =
+    Settles limit wanted before.lines got (Err TooLong)
+LineStopsAs limit wanted before after got SourceFailed =
+    LeavesOpen limit wanted TooLong before.lines got
 
 -- these bytes before the line that is read, where one is
 abbrev pub after_front : List ℕ → Result (List ℕ × Coming) LineError
@@ -42,7 +46,7 @@ after_front front (Err error) = Err error
 abbrev pub FilledAs : Stream → Stream → List ℕ → Result Bool Failed → Type 0
 FilledAs before after got (Ok true) = (0 < length after.lines.ahead) × IsCalm before after
 FilledAs before after got (Ok false) =
-    (before.lines.ahead ≡ []) × (got ≡ []) × HasEnded before.left after.left × IsCalm before after
+    (before.lines.ahead ≡ []) × (got ≡ []) × EndsHere before.left after.left × IsCalm before after
 FilledAs before after got (Err failed) =
     (before.lines.ahead ≡ []) × (got ≡ []) × (before.faults ≤ after.faults)
     × Rose before.faults after.faults
@@ -52,7 +56,7 @@ pub record Filled (limit : ℕ) (before after : Stream) (result : Result Bool Fa
   pub within : before.lines.read ≤ limit
   pub consumes : Consumes before.left after.left got
   pub lines : after.lines ≡ record before.lines { ahead = before.lines.ahead ++ got }
-  pub few : (got ≡ []) ⊎ ((before.lines.ahead ≡ []) × (length got ≤ 4096))
+  pub few : (got ≡ []) ⊎ ((before.lines.ahead ≡ []) × (length got ≤ piece_size))
   pub fills : FilledAs before after got result
 
 -- a front of the line that comes was kept, and its line feed was read or not
@@ -92,26 +96,26 @@ pub record IsLine (limit : ℕ) (before after : Stream) (line : List ℕ) : Type
   pub calm : IsCalm before after
 
 -- no line was read, or the input was to end
-pub record IsStopped {T : Type 0} (limit : ℕ) (wanted : Coming → Result T LineError)
+pub record IsLineStopped {T : Type 0} (limit : ℕ) (wanted : Coming → Result T LineError)
     (before after : Stream) (error : LineError) : Type 0 where
   pub got : List ℕ
   pub consumes : Consumes before.left after.left got
   pub needed : IsNeeded limit wanted TooLong before.lines got
-  pub stops : StopsAs limit wanted before after got error
-  pub blames : Blames before after error
+  pub stops : LineStopsAs limit wanted before after got error
+  pub blames : LineBlames before after error
 
 -- what a call reads that keeps a piece of a line: at `true` it is the whole line, at `false` its
 -- front
 abbrev pub PieceRead : ℕ → Stream → Stream → Result Bool LineError → Type 0
 PieceRead limit before after (Ok true) = IsLine limit before after after.lines.kept
 PieceRead limit before after (Ok false) = InLine limit before after after.lines.kept
-PieceRead limit before after (Err error) = IsStopped limit next_line before after error
+PieceRead limit before after (Err error) = IsLineStopped limit next_line before after error
 
 -- what a call reads that skips a line
 abbrev pub RestRead : ℕ → Stream → Stream → Result ⊤ LineError → Type 0
 RestRead limit before after (Ok done) =
     (line : List ℕ) × IsLine limit before after line × (after.lines.kept ≡ [])
-RestRead limit before after (Err error) = IsStopped limit next_line before after error
+RestRead limit before after (Err error) = IsLineStopped limit next_line before after error
 
 -- a line was kept, or is a long one and nothing is kept
 abbrev pub IsKept : List ℕ → List ℕ → Type 0
@@ -121,7 +125,7 @@ IsKept kept line = (kept ≡ line) ⊎ ((kept ≡ []) × (4096 ≤ length line))
 abbrev pub LineRead : ℕ → Stream → Stream → Result ⊤ LineError → Type 0
 LineRead limit before after (Ok done) =
     (line : List ℕ) × IsLine limit before after line × IsKept after.lines.kept line
-LineRead limit before after (Err error) = IsStopped limit next_line before after error
+LineRead limit before after (Err error) = IsLineStopped limit next_line before after error
 
 -- the error of a byte that comes where the input was to end
 abbrev pub surplus_of : ℕ → LinesState → LineError
@@ -131,10 +135,10 @@ surplus_of limit lines = if limit - lines.read == 0 then TooLong else Surplus (l
 pub record IsEnd (limit : ℕ) (before after : Stream) : Type 0 where
   pub ends : input_end (coming_in false limit before.lines []) ≡ Ok tt
   pub consumes : Consumes before.left after.left []
-  pub left : HasEnded before.left after.left
+  pub left : EndsHere before.left after.left
   pub calm : IsCalm before after
 
 -- what a call reads where the input is to end
-abbrev pub EndRead : ℕ → Stream → Stream → Result ⊤ LineError → Type 0
-EndRead limit before after (Ok done) = IsEnd limit before after
-EndRead limit before after (Err error) = IsStopped limit input_end before after error
+abbrev pub LinesEndRead : ℕ → Stream → Stream → Result ⊤ LineError → Type 0
+LinesEndRead limit before after (Ok done) = IsEnd limit before after
+LinesEndRead limit before after (Err error) = IsLineStopped limit input_end before after error

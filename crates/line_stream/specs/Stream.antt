@@ -1,6 +1,7 @@
 -- What contracts see of the lines of a source.
 use Rattle.std.specs.Prelude.{◌≡◌, ℕ, ◌+◌, ◌-◌, ◌≤◌, ◌⊎◌, Bool, true, List, [], ◌++◌, length}
 use Rattle.std.specs.Prelude.{Option, Some, IfSome, IsTrue, Result, Err}
+use Rattle.port_io.specs.Bytes.{piece_size}
 use Rattle.line_stream.specs.Input.{input_of, with_more}
 use Rattle.line_stream.specs.Coming.{Coming}
 
@@ -67,7 +68,7 @@ pub record IsLastPiece {T E : Type 0} (limit : ℕ) (wanted : Coming → Result 
   pub front : List ℕ
   pub piece : List ℕ
   pub parts : got ≡ front ++ piece
-  pub few : length piece ≤ 4096
+  pub few : length piece ≤ piece_size
   pub before : LeavesOpen limit wanted open_ lines front
 
 -- no more bytes were read than were needed
@@ -75,5 +76,5 @@ abbrev pub IsNeeded : {T E : Type 0} → ℕ → (Coming → Result T E) → E �
 IsNeeded limit wanted open_ lines got = (got ≡ []) ⊎ IsLastPiece limit wanted open_ lines got
 
 -- the source ends here, where it tells its bytes
-abbrev pub HasEnded : Option (List ℕ) → Option (List ℕ) → Type 0
-HasEnded before after = IfSome before (λ _. after ≡ Some [])
+abbrev pub EndsHere : Option (List ℕ) → Option (List ℕ) → Type 0
+EndsHere before after = IfSome before (λ _. after ≡ Some [])

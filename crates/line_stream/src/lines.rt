@@ -3,7 +3,7 @@
 ghost use Rattle.std.specs.Prelude.{◌≡◌, ◌<◌, ◌≤◌, ◌-◌, [], false, length, nat_lt, IsOk, IfOk};
 ghost use Rattle.line_stream.specs.Stream.{stream};
 ghost use Rattle.line_stream.specs.LineReading.{Filled, FrontRead, PieceRead, LineRead, RestRead};
-ghost use Rattle.line_stream.specs.LineReading.{EndRead, surplus_of};
+ghost use Rattle.line_stream.specs.LineReading.{LinesEndRead, surplus_of};
 
 use crate::ahead::Ahead;
 use crate::so_far::ReadSoFar;
@@ -193,7 +193,7 @@ impl<const LIMIT: u32> Lines<LIMIT> {
 
     /// Ends the reading: `Ok` exactly where the input ends here.
     pub fn read_end<S: Source>(&mut self, source: &mut S) -> Result<(), LineError>
-        ensures { EndRead LIMIT (stream S.left S.faults S.is_strict self.old source.old)
+        ensures { LinesEndRead LIMIT (stream S.left S.faults S.is_strict self.old source.old)
             (stream S.left S.faults S.is_strict self.new source.new) result }
     {
         match self.has_more(source) {

@@ -1,5 +1,5 @@
 -- What the code computes of a radius is what the definitions say of it.
-use Rattle.std.proofs.Common.{◌≡◌, ℕ, ◌*◌, ◌^◌, ◌≤◌, ℤ, pos, ◌≤ℤ◌, ◌<ℤ◌, true, false, sym, ap, ◌∙◌, w64, to_z, of_z, arith}
+use Rattle.std.proofs.Common.{◌≡◌, ℕ, ◌+◌, ◌*◌, ◌/◌, ◌^◌, ◌≤◌, ℤ, pos, ◌≤ℤ◌, ◌<ℤ◌, Bool, true, false, not, cond, Option, None, Some, refl, sym, ap, ◌∙◌, w64, to_z, of_z, arith}
 use mir.Syntax.{w128}
 use Rattle.std.specs.Prelude.{unsigned_abs, int_lt, map}
 use Rattle.std.proofs.Common.{FitsSigned}
@@ -14,6 +14,8 @@ use Rattle.siting_definitions.specs.Square.{Square}
 use Rattle.siting_definitions.specs.Bounds.{near2, far2, capped, coarse_radius, fine_radius, lower_radius, upper_radius, coarse_of, fine_of, lower_of, upper_of}
 use Rattle.dist_bounds.specs.Limits.{longest}
 use Rattle.siting_definitions.proofs.Integers.{int_lt-true, int_lt-false}
+use Rattle.std.proofs.lemmas.Bool.{cond-true, cond-false}
+use Rattle.root_enclosure.proofs.RootLemmas.{floor_root-finer, ceil_root-finer, floor_root-le-ceil_root, ceil_root-le}
 use Rattle.objectives.proofs.BoundLemmas.{at_positive, at_negative}
 
 -- ---- a weight that was tested
@@ -29,29 +31,56 @@ pub repels : (w : ℤ) → unsigned_abs w ≤ 16000000 → int_lt (pos 0) (to_z 
 repels w small h = int_lt-false (pos 0) w (rw (weight-passed w small) at h)
 
 -- ---- the radii, by the steps in which the code makes them
-pub coarse-attracting : (s : Square) (d : DemandPt) (a : Place) (m f r : ℕ) → pos 0 <ℤ d.w → a ≡ place_of d → m ≡ near2 s a → f ≡ floor_root m → r ≡ capped d.cutoff 65536 f → r ≡ coarse_radius s d
-unfolding coarse_radius
-coarse-attracting s d a m f r h ea em ef er =
-    er ∙ ap (capped d.cutoff 65536) (ef ∙ ap floor_root (em ∙ ap (near2 s) ea)) ∙ sym (at_positive d _ _ h)
-
--- coarse, of a point that repels
-pub coarse-repelling : (s : Square) (d : DemandPt) (a : Place) (m f r : ℕ) → d.w ≤ℤ pos 0 → a ≡ place_of d → m ≡ far2 s a → f ≡ ceil_root m → r ≡ capped d.cutoff 65536 f → r ≡ coarse_radius s d
-unfolding coarse_radius
-coarse-repelling s d a m f r h ea em ef er =
-    er ∙ ap (capped d.cutoff 65536) (ef ∙ ap ceil_root (em ∙ ap (far2 s) ea)) ∙ sym (at_negative d _ _ h)
-
--- fine, of a point that attracts
-pub fine-attracting : (s : Square) (d : DemandPt) (a : Place) (m f r : ℕ) → pos 0 <ℤ d.w → a ≡ place_of d → m ≡ near2 s a → f ≡ floor_root (m * 2 ^ 32) → r ≡ capped d.cutoff (2 ^ 32) f → r ≡ fine_radius s d
+-- of the fine bound: b tells whether the point attracts
+pub fine-by : (s : Square) (d : DemandPt) (a : Place) (m f r : ℕ) (b : Bool) → b ≡ int_lt (pos 0) d.w → a ≡ place_of d → m ≡ cond (not b) (far2 s a) (near2 s a) → f ≡ cond (not b) (ceil_root (m * 2 ^ 32)) (floor_root (m * 2 ^ 32)) → r ≡ capped d.cutoff (2 ^ 32) f → r ≡ fine_radius s d
 unfolding fine_radius
-fine-attracting s d a m f r h ea em ef er =
-    er ∙ ap (capped d.cutoff (2 ^ 32)) (ef ∙ ap (λ n. floor_root (n * 2 ^ 32)) (em ∙ ap (near2 s) ea)) ∙ sym (at_positive d _ _ h)
+fine-by s d a m f r true sign ea em ef er =
+    er ∙ ap (capped d.cutoff (2 ^ 32)) (ef ∙ ap (λ n. floor_root (n * 2 ^ 32)) (em ∙ ap (near2 s) ea)) ∙ sym (cond-true _ _ _ (sym sign))
+fine-by s d a m f r false sign ea em ef er =
+    er ∙ ap (capped d.cutoff (2 ^ 32)) (ef ∙ ap (λ n. ceil_root (n * 2 ^ 32)) (em ∙ ap (far2 s) ea)) ∙ sym (cond-false _ _ _ (sym sign))
 
--- fine, of one that repels
-pub fine-repelling : (s : Square) (d : DemandPt) (a : Place) (m f r : ℕ) → d.w ≤ℤ pos 0 → a ≡ place_of d → m ≡ far2 s a → f ≡ ceil_root (m * 2 ^ 32) → r ≡ capped d.cutoff (2 ^ 32) f → r ≡ fine_radius s d
-unfolding fine_radius
-fine-repelling s d a m f r h ea em ef er =
-    er ∙ ap (capped d.cutoff (2 ^ 32)) (ef ∙ ap (λ n. ceil_root (n * 2 ^ 32)) (em ∙ ap (far2 s) ea)) ∙ sym (at_negative d _ _ h)
+-- of a site's upper cost
+pub upper-by : (z : Pt) (d : DemandPt) (m f r : ℕ) (b : Bool) → b ≡ int_lt (pos 0) d.w → m ≡ distance2 (place_of d) (point_of z) → f ≡ cond b (ceil_root (m * 2 ^ 32)) (floor_root (m * 2 ^ 32)) → r ≡ capped d.cutoff (2 ^ 32) f → r ≡ upper_radius z d
+unfolding upper_radius
+upper-by z d m f r true sign em ef er =
+    er ∙ ap (capped d.cutoff (2 ^ 32)) (ef ∙ ap (λ n. ceil_root (n * 2 ^ 32)) em) ∙ sym (cond-true _ _ _ (sym sign))
+upper-by z d m f r false sign em ef er =
+    er ∙ ap (capped d.cutoff (2 ^ 32)) (ef ∙ ap (λ n. floor_root (n * 2 ^ 32)) em) ∙ sym (cond-false _ _ _ (sym sign))
 
+-- a capped radius in grid units, rounded down and rounded up, is the radius in grid units, capped
+capped-down : (o : Option ℤ) (f : ℕ) → capped o (2 ^ 32) f / 65536 ≡ capped o 65536 (f / 65536)
+capped-down None f = refl
+capped-down (Some k) f = omega arith
+
+capped-up : (o : Option ℤ) (f : ℕ) → (capped o (2 ^ 32) f + 65535) / 65536 ≡ capped o 65536 ((f + 65535) / 65536)
+capped-up None f = refl
+capped-up (Some k) f = omega arith
+
+-- of the coarse bound: the fine radius in grid units
+pub coarse-by : (s : Square) (d : DemandPt) (f r : ℕ) (b : Bool) → b ≡ int_lt (pos 0) d.w → f ≡ fine_radius s d → r ≡ cond (not b) ((f + 65535) / 65536) (f / 65536) → r ≡ coarse_radius s d
+unfolding coarse_radius fine_radius
+coarse-by s d f r true sign ef er =
+    let n = near2 s (place_of d) in
+    let fine = ef ∙ cond-true _ _ _ (sym sign) in
+    er ∙ ap (λ n. n / 65536) fine ∙ capped-down d.cutoff (floor_root (n * 2 ^ 32)) ∙ ap (capped d.cutoff 65536) (floor_root-finer n) ∙ sym (cond-true _ _ _ (sym sign))
+coarse-by s d f r false sign ef er =
+    let n = far2 s (place_of d) in
+    let fine = ef ∙ cond-false _ _ _ (sym sign) in
+    er ∙ ap (λ n. (n + 65535) / 65536) fine ∙ capped-up d.cutoff (ceil_root (n * 2 ^ 32)) ∙ ap (capped d.cutoff 65536) (ceil_root-finer n) ∙ sym (cond-false _ _ _ (sym sign))
+
+-- ---- how great a root is
+pub fine_ceil-small : (m r : ℕ) → m ≤ longest * longest → r ≡ ceil_root (m * 2 ^ 32) → r ≤ 65536 * longest
+fine_ceil-small m r h e = rw e (ceil_root-le (m * 2 ^ 32) 31588352000000000 (omega arith))
+
+pub fine_floor-small : (m r : ℕ) → m ≤ longest * longest → r ≡ floor_root (m * 2 ^ 32) → r ≤ 65536 * longest
+fine_floor-small m r h e =
+    rw e (omega (arith, floor_root-le-ceil_root (m * 2 ^ 32), ceil_root-le (m * 2 ^ 32) 31588352000000000 (omega arith)))
+
+pub fine_root-small : (up : Bool) (m r : ℕ) → m ≤ longest * longest → r ≡ cond up (ceil_root (m * 2 ^ 32)) (floor_root (m * 2 ^ 32)) → r ≤ 65536 * longest
+fine_root-small true m r h e = fine_ceil-small m r h e
+fine_root-small false m r h e = fine_floor-small m r h e
+
+-- ---- of a site, by the sign of the weight
 -- of a site's lower cost, of a point that attracts
 pub lower-attracting : (z : Pt) (d : DemandPt) (m f r : ℕ) → pos 0 <ℤ d.w → m ≡ distance2 (place_of d) (point_of z) → f ≡ floor_root (m * 2 ^ 32) → r ≡ capped d.cutoff (2 ^ 32) f → r ≡ lower_radius z d
 unfolding lower_radius

@@ -1,21 +1,17 @@
 //! The coarse and the fine bound of a square.
 
-ghost use Rattle.std.specs.Prelude.{◌≡◌, ℕ, ◌*◌, ◌≤◌, pos, unsigned_abs};
-ghost use Rattle.std.specs.Prelude.{true, map, sum_by, fold, unwrap_or, None};
+ghost use Rattle.std.specs.Prelude.{◌≡◌, true};
 ghost use Rattle.siting_definitions.specs.Point.{Point};
-ghost use Rattle.siting_definitions.specs.Instance.{DemandPt};
-ghost use Rattle.siting_definitions.specs.declared.TheConstants.{WEIGHT_LIMIT};
-ghost use Rattle.siting_definitions.specs.Cost.{CostAtLeast, total_of};
+ghost use Rattle.siting_definitions.specs.Cost.{CostAtLeast};
 ghost use Rattle.siting_definitions.specs.Square.{holds_closed};
 ghost use Rattle.siting_definitions.specs.Bounds.{coarse_of, fine_of};
 ghost use Rattle.objectives.specs.Limits.{IsCost};
-ghost use Rattle.objectives.specs.Totals.{joined_at};
 
-use crate::radii::{CoarseRadii, FineRadii, Radii};
+use crate::passes::{total_of, totals_of};
+use crate::radii::{BoundRadii, CoarseRadii, FineRadii};
 use crate::rounding::round_down;
-use crate::total::{MaxTotal, SumTotal, Total};
 use dyadic_square::Square;
-use site_model::{DemandPt, Instance, Kind};
+use site_model::Instance;
 
 /// The coarse bound of a square, in cost units: no point of the closed square costs less. It takes
 /// whole roots in grid units. It is at most 7,712 * 10^15 in size, so below 2^63.
@@ -37,29 +33,14 @@ pub fn fine(instance: &Instance, sq: Square) -> i64
     round_down(total_of(instance, &FineRadii(sq)))
 }
 
-/// The total of an instance's weights times these radii.
-fn total_of<R: Radii>(instance: &Instance, radii: &R) -> i128
-    ensures value { result
-        ≡ total_of instance.now (map (R.radius_of radii.now) instance.now.points) }
-    ensures size { unsigned_abs result ≤ WEIGHT_LIMIT * R.limit }
+/// The coarse and the fine bound of a square, in cost units, in one pass over the points. Each is
+/// at most 7,712 * 10^15 in size, so below 2^63.
+pub fn coarse_and_fine(instance: &Instance, sq: Square) -> (i64, i64)
+    ensures coarse { result.0 ≡ coarse_of instance.now sq }
+    ensures fine { result.1 ≡ fine_of instance.now sq }
+    ensures coarse_size { IsCost result.0 }
+    ensures fine_size { IsCost result.1 }
 {
-    match instance.kind() {
-        Kind::Sum => total_by::<SumTotal, R>(instance.points(), radii),
-        Kind::Max => total_by::<MaxTotal, R>(instance.points(), radii),
-    }
-}
-
-/// The total of weights times radii, joined one after another, and 0 of no points.
-fn total_by<T: Total, R: Radii>(points: &[DemandPt], radii: &R) -> i128
-    requires { sum_by (λ (d : DemandPt). unsigned_abs d.w) points.now ≤ WEIGHT_LIMIT }
-    ensures value { result
-        ≡ unwrap_or (fold (joined_at T.joined (R.radius_of radii.now)) None points.now) (pos 0) }
-    ensures size { unsigned_abs result ≤ WEIGHT_LIMIT * R.limit }
-{
-    let mut so_far = None;
-    for point in points {
-        let point = *point;
-        so_far = Some(T::join(so_far, point.w, radii.radius(point)));
-    }
-    so_far.unwrap_or(0)
+    let (coarse, fine) = totals_of(instance, &BoundRadii(sq));
+    (coarse as i64, round_down(fine))
 }

@@ -8,14 +8,15 @@ mod bounds;
 mod costs;
 mod gap;
 mod laws;
+mod passes;
 mod radii;
 mod rounding;
 #[cfg(test)]
 mod tests;
 mod total;
 
-pub use bounds::{coarse, fine};
-pub use costs::cost_of;
+pub use bounds::{coarse, coarse_and_fine, fine};
+pub use costs::{cost_of, fine_and_upper, upper_cost};
 pub use gap::reaches;
 pub use laws::{
     coarse_is_below_fine, costs_are_ordered, costs_are_small, costs_enclose, fine_is_a_bound,

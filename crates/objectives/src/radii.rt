@@ -1,6 +1,7 @@
 //! The radius of a demand point in the bounds of a square and in the costs of a site.
 
-ghost use Rattle.std.specs.Prelude.{◌≡◌, ℕ, ◌*◌, ◌^◌, ◌≤◌, ℤ, pos, ◌≤ℤ◌, MatchOption, ⊤};
+ghost use Rattle.std.specs.Prelude.{◌≡◌, ℕ, ◌+◌, ◌*◌, ◌/◌, ◌^◌, ◌≤◌, ℤ, pos, ◌≤ℤ◌, int_lt};
+ghost use Rattle.std.specs.Prelude.{if◌then◌else◌, MatchOption, ⊤};
 ghost use Rattle.std.proofs.Common.{lit≤};
 ghost use Rattle.siting_definitions.specs.Root as roots;
 ghost use Rattle.siting_definitions.specs.Point.{point_of};
@@ -11,10 +12,10 @@ ghost use Rattle.siting_definitions.specs.Cost as costs;
 ghost use Rattle.siting_definitions.specs.Bounds as bounds;
 ghost use Rattle.dist_bounds.specs.Limits.{longest};
 
-use dist_bounds::{distance2, far2, near2};
+use dist_bounds::{distance2, near_or_far2};
 use dyadic_square::Square;
 use exact_geometry::Place;
-use root_enclosure::{ceil_root, floor_root};
+use root_enclosure::{both_roots, root_rounded};
 use site_model::{DemandPt, Site};
 use siting_definitions::UNIT;
 
@@ -38,6 +39,24 @@ pub(crate) trait Radii {
     ghost is_small: { limit ≤ 2 ^ 55 };
 }
 
+/// Two radii for each demand point, of which the second is in 1/UNIT of a grid unit.
+pub(crate) trait TwoRadii {
+    ghost first_of: { Self → DemandPt → ℕ };
+
+    ghost second_of: { Self → DemandPt → ℕ };
+
+    ghost first_limit: { ℕ };
+
+    /// Both radii of `d`.
+    fn radii(&self, d: DemandPt) -> (u64, u64)
+        ensures first { result.0 ≡ first_of self.now d }
+        ensures second { result.1 ≡ second_of self.now d }
+        ensures first_size { result.0 ≤ first_limit }
+        ensures second_size { result.1 ≤ UNIT * longest };
+
+    ghost is_small: { first_limit ≤ 2 ^ 55 };
+}
+
 /// In grid units: those of the coarse bound of a square.
 #[derive(Clone, Copy)]
 pub(crate) struct CoarseRadii(pub(crate) Square);
@@ -49,13 +68,9 @@ impl Radii for CoarseRadii {
 
     ghost is_small = { lit≤ tt };
 
+    #[inline(always)]
     fn radius(&self, d: DemandPt) -> u64 {
-        let place = place_of(d);
-        if d.w > 0 {
-            capped_radius(d.cutoff, UNIT, floor_root(near2(self.0, place)))
-        } else {
-            capped_radius(d.cutoff, UNIT, ceil_root(far2(self.0, place)))
-        }
+        bound_radii(self.0, d).0
     }
 }
 
@@ -70,36 +85,133 @@ impl Radii for FineRadii {
 
     ghost is_small = { lit≤ tt };
 
+    #[inline(always)]
     fn radius(&self, d: DemandPt) -> u64 {
         fine_radius(self.0, d)
+    }
+}
+
+/// In 1/UNIT of a grid unit: those of the upper cost of a site.
+#[derive(Clone, Copy)]
+pub(crate) struct UpperRadii(pub(crate) Site);
+
+impl Radii for UpperRadii {
+    ghost radius_of = { λ s d. bounds.upper_radius s.0 d };
+
+    ghost limit = { UNIT * longest };
+
+    ghost is_small = { lit≤ tt };
+
+    #[inline(always)]
+    fn radius(&self, d: DemandPt) -> u64 {
+        upper_radius(self.0, d)
+    }
+}
+
+/// Those of the coarse bound of a square, and those of the fine one.
+#[derive(Clone, Copy)]
+pub(crate) struct BoundRadii(pub(crate) Square);
+
+impl TwoRadii for BoundRadii {
+    ghost first_of = { λ s d. bounds.coarse_radius s.0 d };
+
+    ghost second_of = { λ s d. bounds.fine_radius s.0 d };
+
+    ghost first_limit = { longest };
+
+    ghost is_small = { lit≤ tt };
+
+    #[inline(always)]
+    fn radii(&self, d: DemandPt) -> (u64, u64) {
+        bound_radii(self.0, d)
+    }
+}
+
+/// Those of the lower cost of a site, and those of the upper one.
+#[derive(Clone, Copy)]
+pub(crate) struct SiteRadii(pub(crate) Site);
+
+impl TwoRadii for SiteRadii {
+    ghost first_of = { λ s d. bounds.lower_radius s.0 d };
+
+    ghost second_of = { λ s d. bounds.upper_radius s.0 d };
+
+    ghost first_limit = { UNIT * longest };
+
+    ghost is_small = { lit≤ tt };
+
+    #[inline(always)]
+    fn radii(&self, d: DemandPt) -> (u64, u64) {
+        enclosing_radii(self.0, d)
+    }
+}
+
+/// Those of the fine bound of a square, and those of the upper cost of a site.
+#[derive(Clone, Copy)]
+pub(crate) struct BoundAndCostRadii(pub(crate) Square, pub(crate) Site);
+
+impl TwoRadii for BoundAndCostRadii {
+    ghost first_of = { λ s d. bounds.fine_radius s.0 d };
+
+    ghost second_of = { λ s d. bounds.upper_radius s.1 d };
+
+    ghost first_limit = { UNIT * longest };
+
+    ghost is_small = { lit≤ tt };
+
+    #[inline(always)]
+    fn radii(&self, d: DemandPt) -> (u64, u64) {
+        (fine_radius(self.0, d), upper_radius(self.1, d))
     }
 }
 
 /// The radius of `d` in the fine bound of a square, in 1/UNIT of a grid unit: the root of the least
 /// squared distance to the closed square, rounded down, where the point attracts, and that of the
 /// greatest, rounded up, where it repels, or the cutoff if that is less. It is below 2^55.
+#[inline(always)]
 pub fn fine_radius(sq: Square, d: DemandPt) -> u64
     ensures value { result ≡ bounds.fine_radius sq d }
     ensures size { result ≤ UNIT * longest }
 {
-    let place = place_of(d);
-    if d.w > 0 {
-        capped_radius(d.cutoff, FINE_UNITS, fine_floor_root(near2(sq, place)))
-    } else {
-        capped_radius(d.cutoff, FINE_UNITS, fine_ceil_root(far2(sq, place)))
-    }
+    let repels = !attracts(d);
+    let root = fine_root(near_or_far2(sq, place_of(d), repels), repels);
+    capped_radius(d.cutoff, root)
+}
+
+/// The radii of `d` in the coarse and in the fine bound of a square: the coarse one is the fine one
+/// in grid units, rounded as that is.
+#[inline(always)]
+fn bound_radii(sq: Square, d: DemandPt) -> (u64, u64)
+    ensures coarse { result.0 ≡ bounds.coarse_radius sq d }
+    ensures fine { result.1 ≡ bounds.fine_radius sq d }
+    ensures coarse_size { result.0 ≤ longest }
+    ensures fine_size { result.1 ≤ UNIT * longest }
+{
+    let fine = fine_radius(sq, d);
+    (in_grid_units(fine, !attracts(d)), fine)
+}
+
+/// The radius of `d` in the upper cost of a site, in 1/UNIT of a grid unit.
+#[inline(always)]
+fn upper_radius(site: Site, d: DemandPt) -> u64
+    ensures value { result ≡ bounds.upper_radius site d }
+    ensures size { result ≤ UNIT * longest }
+{
+    let squared = squared_distance(site, d);
+    capped_radius(d.cutoff, fine_root(squared, attracts(d)))
 }
 
 /// The radii of `d` in the lower and in the upper cost of a site, in 1/UNIT of a grid unit.
-pub(crate) fn enclosing_radii(site: Site, d: DemandPt) -> (u64, u64)
+#[inline(always)]
+fn enclosing_radii(site: Site, d: DemandPt) -> (u64, u64)
     ensures lower { result.0 ≡ bounds.lower_radius site d }
     ensures upper { result.1 ≡ bounds.upper_radius site d }
     ensures lower_size { result.0 ≤ UNIT * longest }
     ensures upper_size { result.1 ≤ UNIT * longest }
 {
     let (floor, ceil) = enclosing_roots(squared_distance(site, d));
-    let floor = capped_radius(d.cutoff, FINE_UNITS, floor);
-    let ceil = capped_radius(d.cutoff, FINE_UNITS, ceil);
+    let floor = capped_radius(d.cutoff, floor);
+    let ceil = capped_radius(d.cutoff, ceil);
     if d.w > 0 {
         (floor, ceil)
     } else {
@@ -108,6 +220,7 @@ pub(crate) fn enclosing_radii(site: Site, d: DemandPt) -> (u64, u64)
 }
 
 /// The place of a demand point.
+#[inline(always)]
 fn place_of(d: DemandPt) -> Place
     ensures { result ≡ instances.place_of d }
 {
@@ -115,6 +228,7 @@ fn place_of(d: DemandPt) -> Place
 }
 
 /// The squared distance from a site to a demand point, in grid units squared.
+#[inline(always)]
 fn squared_distance(site: Site, d: DemandPt) -> u128
     ensures value { result ≡ costs.distance2 (instances.place_of d) (point_of site) }
     ensures size { result ≤ longest * longest }
@@ -122,26 +236,39 @@ fn squared_distance(site: Site, d: DemandPt) -> u128
     distance2(site.pt(), place_of(d))
 }
 
-/// The root of a squared distance in grid units, rounded down, in 1/UNIT of a grid unit.
-fn fine_floor_root(squared: u128) -> u64
-    requires { squared ≤ longest * longest }
-    ensures value { result ≡ roots.floor_root (squared * 2 ^ 32) }
-    ensures size { result ≤ UNIT * longest }
+/// Whether the point attracts.
+#[inline(always)]
+fn attracts(d: DemandPt) -> bool
+    ensures { result ≡ int_lt (pos 0) d.w }
 {
-    floor_root(squared * FINE_UNITS_SQUARED)
+    d.w > 0
 }
 
-/// The root of a squared distance in grid units, rounded up, in 1/UNIT of a grid unit.
-fn fine_ceil_root(squared: u128) -> u64
+/// A radius in 1/UNIT of a grid unit, in grid units, rounded up if `up`, and else rounded down.
+#[inline(always)]
+fn in_grid_units(fine: u64, up: bool) -> u64
+    requires { fine ≤ UNIT * longest }
+    ensures value { result ≡ if up then (fine + 65535) / 65536 else fine / 65536 }
+    ensures size { result ≤ longest }
+{
+    (fine + up as u64 * (UNIT - 1)) / UNIT
+}
+
+/// The root of a squared distance in grid units, rounded up if `up`, and else rounded down,
+/// in 1/UNIT of a grid unit.
+#[inline(always)]
+fn fine_root(squared: u128, up: bool) -> u64
     requires { squared ≤ longest * longest }
-    ensures value { result ≡ roots.ceil_root (squared * 2 ^ 32) }
+    ensures value { result ≡ if up then roots.ceil_root (squared * 2 ^ 32)
+        else roots.floor_root (squared * 2 ^ 32) }
     ensures size { result ≤ UNIT * longest }
 {
-    ceil_root(squared * FINE_UNITS_SQUARED)
+    root_rounded(squared * FINE_UNITS_SQUARED, up)
 }
 
 /// The root of a squared distance in grid units, rounded down and rounded up,
 /// in 1/UNIT of a grid unit.
+#[inline(always)]
 fn enclosing_roots(squared: u128) -> (u64, u64)
     requires { squared ≤ longest * longest }
     ensures floor { result.0 ≡ roots.floor_root (squared * 2 ^ 32) }
@@ -149,22 +276,18 @@ fn enclosing_roots(squared: u128) -> (u64, u64)
     ensures floor_size { result.0 ≤ UNIT * longest }
     ensures ceil_size { result.1 ≤ UNIT * longest }
 {
-    let m = squared * FINE_UNITS_SQUARED;
-    let floor = floor_root(m);
-    let rest = m - floor as u128 * floor as u128;
-    (floor, floor + (rest > 0) as u64)
+    both_roots(squared * FINE_UNITS_SQUARED)
 }
 
-/// The lesser of a radius and the cutoff, where there is one. `units` is how many of the radius's
-/// units make a length.
-fn capped_radius(cutoff: Option<i32>, units: u64, radius: u64) -> u64
-    requires units { units ≤ 2 ^ 32 }
-    requires cutoff { MatchOption cutoff ⊤ (λ c. (pos 1 ≤ℤ c) × (c ≤ℤ pos CUTOFF_LIMIT)) }
-    ensures value { result ≡ bounds.capped cutoff units radius }
+/// The lesser of a radius in 1/UNIT of a grid unit and the cutoff, where there is one.
+#[inline(always)]
+fn capped_radius(cutoff: Option<i32>, radius: u64) -> u64
+    requires { MatchOption cutoff ⊤ (λ c. (pos 1 ≤ℤ c) × (c ≤ℤ pos CUTOFF_LIMIT)) }
+    ensures value { result ≡ bounds.capped cutoff (2 ^ 32) radius }
     ensures size { result ≤ radius }
 {
     match cutoff {
-        Some(cutoff) => radius.min(units * cutoff as u64),
+        Some(cutoff) => radius.min(FINE_UNITS * cutoff as u64),
         None => radius,
     }
 }

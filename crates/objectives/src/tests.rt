@@ -76,6 +76,121 @@ fn distance_beyond_a_cutoff(rt: HostRuntime) {
     assert_eq!(rt; cost_of(&instance, Site::of(0, 0)), (65536, 65536));
 }
 
+/// An instance with points of both signs, without cutoffs and with cutoffs that are greater and
+/// less than distances, at places near the middle and at the ends of coordinates.
+#[tactic(auto, unfolding(siting_definitions::specs::Instance::weight))]
+fn mixed_instance(rt: &impl Abort, alloc: Global, kind: Kind) -> Instance {
+    let points = [
+        DemandPt::of(0, 0, 3, None),
+        DemandPt::of(0, 0, 5, Some(1)),
+        DemandPt::of(7, -2, -4, None),
+        DemandPt::of(1000000, -1000000, -2, Some(3)),
+        DemandPt::of(-1000000, 1000000, -6, Some(4000000)),
+        DemandPt::of(-3, 4, 1, Some(4000000)),
+    ];
+    let points = Vec::from_array(alloc, points).expect(rt, "memory");
+    instance(rt, alloc, kind, points)
+}
+
+/// The numbers of a square and of a site are these, by each call that computes one.
+fn check_numbers(
+    rt: &impl Abort,
+    instance: &Instance,
+    square: Square,
+    site: Site,
+    bounds: (i64, i64),
+    costs: (i64, i64),
+) {
+    assert_eq!(rt;
+        coarse(instance, square),
+        bounds.0,
+        "coarse bound of {square:?}"
+    );
+    assert_eq!(rt;
+        fine(instance, square),
+        bounds.1,
+        "fine bound of {square:?}"
+    );
+    assert_eq!(rt;
+        coarse_and_fine(instance, square),
+        bounds,
+        "both bounds of {square:?}"
+    );
+    assert_eq!(rt; cost_of(instance, site), costs, "costs of {site:?}");
+    assert_eq!(rt;
+        upper_cost(instance, site),
+        costs.1,
+        "upper cost of {site:?}"
+    );
+    assert_eq!(rt;
+        fine_and_upper(instance, square, site),
+        (bounds.1, costs.1),
+        "fine bound of {square:?} and upper cost of {site:?}"
+    );
+}
+
+#[test]
+fn numbers_of_one_pass(rt: HostRuntime) {
+    let sum = mixed_instance(&rt, rt.alloc(), Kind::Sum);
+    let max = mixed_instance(&rt, rt.alloc(), Kind::Max);
+    // From the first site the distance to the second point is greater than its cutoff, by less than
+    // 1/UNIT of a grid unit: the cutoff is the root rounded down.
+    let table = [
+        (
+            Square::of(65536, 1, 0),
+            Site::of(65536, 1),
+            (-556092834340, -556092834337),
+            (-556092834331, -556092834330),
+            (370726, 370726),
+            (370726, 370727),
+        ),
+        (
+            Square::of(-65537, -2, 0),
+            Site::of(-65536, -1),
+            (-556092859652, -556092859645),
+            (-556092859636, -556092859635),
+            (327680, 327680),
+            (327680, 327680),
+        ),
+        (
+            Square::of(262144, 0, 18),
+            Site::of(262144, 262144),
+            (-556094203386, -556094203380),
+            (-556091653264, -556091653263),
+            (786432, 786432),
+            (1112182, 1112183),
+        ),
+        (
+            Square::of(-137438953472, -137438953472, 37),
+            Site::of(-274877906944, -274877906944),
+            (-2069479065280, -2069479065277),
+            (-1699457056353, -1699457056352),
+            (262144, 262144),
+            (1166208191990, 1166208191991),
+        ),
+        (
+            Square::of(137438953472, 137438953472, 37),
+            Site::of(274877906944, 274877906944),
+            (-2350335313057, -2350335313053),
+            (-1699455202715, -1699455202714),
+            (583104095994, 583104095995),
+            (1166208191990, 1166208191991),
+        ),
+        (
+            Square::of(-65536000000, 0, 37),
+            Site::of(65536000000, 0),
+            (-1551112532060, -1551112532057),
+            (-879255739761, -879255739760),
+            (0, 0),
+            (196608000000, 196608000000),
+        ),
+    ];
+    for (square, site, sum_bounds, sum_costs, max_bounds, max_costs) in table {
+        check_numbers(&rt, &sum, square, site, sum_bounds, sum_costs);
+        check_numbers(&rt, &max, square, site, max_bounds, max_costs);
+    }
+}
+
 #[test]
 fn radii_to_a_square(rt: HostRuntime) {
     // The square from (4, 0) to (8, 4), in lengths, of which each is 2^32 units of a radius.

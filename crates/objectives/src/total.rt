@@ -1,6 +1,6 @@
 //! Totals, made term by term.
 
-ghost use Rattle.std.specs.Prelude.{◌≡◌, ℕ, ◌^◌, ◌≤◌, ℤ, pos, ◌*ℤ◌, Option, unsigned_abs};
+ghost use Rattle.std.specs.Prelude.{◌≡◌, ℕ, ◌^◌, ◌<◌, ◌≤◌, ℤ, pos, ◌*ℤ◌, Option, unsigned_abs};
 ghost use Rattle.objectives.specs.Totals.{IsTotal, max_joined, size_of, sum_joined};
 ghost use Rattle.objectives.specs.TotalLaws.{sum_is_total, max_is_total};
 
@@ -17,6 +17,7 @@ pub trait Total {
     fn join(so_far: Option<i128>, w: i64, r: u64) -> i128
         requires so_far { size_of so_far ≤ 2 ^ 100 }
         requires weight { unsigned_abs w ≤ 2 ^ 24 }
+        requires radius { r < 2 ^ 63 }
         ensures { result ≡ joined so_far w r };
 
     ghost law: { IsTotal joined };
@@ -58,11 +59,13 @@ impl Total for MaxTotal {
     }
 }
 
-/// A weight times a radius.
+/// A weight times a radius, by one multiplication of signed numbers of 64 bits.
+#[inline(always)]
 fn term(w: i64, r: u64) -> i128
-    requires { unsigned_abs w ≤ 2 ^ 24 }
+    requires weight { unsigned_abs w ≤ 2 ^ 24 }
+    requires radius { r < 2 ^ 63 }
     ensures value { result ≡ w *ℤ pos r }
     ensures size { unsigned_abs result ≤ 2 ^ 88 }
 {
-    w as i128 * r as i128
+    w as i128 * r as i64 as i128
 }

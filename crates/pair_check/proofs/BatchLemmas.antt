@@ -14,7 +14,7 @@ use Rattle.certificate.specs.declared.reader.Item.TheVariants.{Node as NodeItem,
 use Rattle.certificate.specs.Forms.{item_form}
 use Rattle.certificate.specs.HeadReading.{answer_limit, formed}
 use Rattle.certificate.specs.declared.reader.AnswerError.TheVariants.{Form, Instance as BadInstance, TooLong as TextTooLong, ReadFault as TextReadFault, NoMemory as TextNoMemory}
-use Rattle.certificate.specs.AnswerReading.{BlamesAs as TextBlamesAs, Read}
+use Rattle.certificate.specs.AnswerReading.{TextBlamesAs, Read}
 use Rattle.discard_log.specs.declared.node.Node.{Node}
 use Rattle.discard_log.specs.Nodes.{mark_of}
 use Rattle.answer_model.specs.Tally.{AreSmall, tally_sum}
@@ -31,7 +31,7 @@ use Rattle.cert_checker.proofs.ReadLemmas.{part_read, part_error}
 use Rattle.cert_checker.proofs.StepLemmas.{IsWithin, fewer, formed-next, few_lines, item_at, items_at, items_begin, take_mark-then}
 use Rattle.cert_checker.proofs.ItemLemmas.{joined-assoc, joined-nothing}
 use Rattle.pair_check.specs.declared.batch.Batch.{Batch}
-use Rattle.pair_check.specs.Batches.{Closes, Takes, batch_says, batch_says_with, progress_past, says, says_with, tally_with}
+use Rattle.pair_check.specs.Batches.{Closes, TakesItem, batch_says, batch_says_with, progress_past, says, says_with, tally_with}
 use Rattle.pair_check.specs.BatchReading.{IsReadTo, IsStoppedAt}
 use Rattle.pair_check.specs.Lines.{lines_fault}
 use Rattle.pair_check.proofs.LineLemmas.{lines_fault-more, tally-append}
@@ -87,7 +87,7 @@ node_taken h above ns later (q ∷ squares) rest s t m line first at new steps r
 -- a batch that was checked says the same without its lines, or its fault
 pub settled : (h : Head) (above after line : ℕ) (ns later : List Node) (squares rest : List Square) (t u : Tally) (before : Coming → Result Accepted CheckError) (o : Option CheckFault)
     → o ≡ lines_fault h above ns → (o ≡ None → u ≡ tally_sum t (tally_of (map mark_of ns))) → (o ≡ None → later ≡ []) → rest ≡ squares
-    → ((r : Coming) → r.line ≡ line → before r ≡ says h above ns squares t r) → Takes line before (says h after later rest u) o
+    → ((r : Coming) → r.line ≡ line → before r ≡ says h above ns squares t r) → TakesItem line before (says h after later rest u) o
 settled h above after line ns later squares rest t u before (Some fault) is tallied empty same mid =
     λ r here. mid r here ∙ ap (λ (k : Option CheckFault). unless_fault k (items_of h (progress_past ns squares t) r r.input.lines)) (sym is)
 settled h above after line ns later squares rest t u before None is tallied empty same mid =
@@ -154,7 +154,7 @@ module _ (h : Head) (start now after : Stream) (above : ℕ) (ns : List Node) (s
 
   -- a line was taken
   pub halfway_more : (m : Mark) → Read (formed item_form) now after (Ok (NodeItem m)) → (line : ℕ) → line ≡ after.lines.line
-      → (above' : ℕ) (ns' : List Node) (squares' : List Square) (t' : Tally) → Takes line (says_with h above ns squares t (NodeItem m)) (says h above' ns' squares' t') None → IsHalfway h start after above' ns' squares' t' (turns + 1)
+      → (above' : ℕ) (ns' : List Node) (squares' : List Square) (t' : Tally) → TakesItem line (says_with h above ns squares t (NodeItem m)) (says h above' ns' squares' t') None → IsHalfway h start after above' ns' squares' t' (turns + 1)
   halfway_more m read line here above' ns' squares' t' takes = record {
     past = read_as _ _ _ start after (item_came (NodeItem m) read) (λ more rest. takes (coming_in more answer_limit after.lines rest) (sym here));
     few = fewer now after turns (NodeItem m) half.few read;

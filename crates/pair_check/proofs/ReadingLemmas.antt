@@ -22,26 +22,26 @@ use Rattle.cert_checker.specs.Steps.{ChecksTo}
 use Rattle.cert_checker.specs.declared.faults.CheckError.TheVariants.{Fault, ReadFault, TooLong, NoMemory}
 use Rattle.cert_checker.specs.declared.checking.Accepted.{Accepted}
 use Rattle.cert_checker.specs.Checking.{error_of, read_ok, accepted_of, check_in, checking}
-use Rattle.cert_checker.specs.CheckReading.{CheckDone, BlamesAs, CountsAs, IsPast, StopsAs, IsStopped, at_last}
+use Rattle.cert_checker.specs.CheckReading.{CheckDone, CheckBlamesAs, CheckCountsAs, IsPast, CheckStopsAs, IsCheckStopped, at_last}
 use Rattle.cert_checker.proofs.ReadLemmas.{part_error}
-use Rattle.cert_checker.proofs.CheckLemmas.{done_says, says_all}
+use Rattle.cert_checker.proofs.CheckLemmas.{calm_over, done_says, says_all}
 use Rattle.pair_check.specs.BatchReading.{BatchesRead, BatchesDone, BlamesAhead, CountsAhead, IsReadTo, IsStoppedAt, UnlessFault}
 
 -- ---- what was read without a need
 pub of_past : (wanted later : Coming → Result Accepted CheckError) (a b : Stream) → IsPast wanted later a b → IsReadTo wanted later a b
 of_past wanted later a b h = record { got = h.got; consumes = h.consumes; same = h.same; count = h.count; calm = h.calm }
 
-blames_of : (a b : Stream) (e : CheckError) → BlamesAs a b e → BlamesAhead a b e
+blames_of : (a b : Stream) (e : CheckError) → CheckBlamesAs a b e → BlamesAhead a b e
 blames_of a b (Fault fault) h = h.later
 blames_of a b TooLong h = h
 blames_of a b ReadFault h = h
 blames_of a b NoMemory h = h
 
-counts_of : (a b : Stream) (result : Result Accepted CheckError) → CountsAs a b result → CountsAhead a b result
+counts_of : (a b : Stream) (result : Result Accepted CheckError) → CheckCountsAs a b result → CountsAhead a b result
 counts_of a b (Ok x) h = h
 counts_of a b (Err e) h = blames_of a b e h
 
-pub of_stopped : (wanted : Coming → Result Accepted CheckError) (a b : Stream) (e : CheckError) → IsStopped wanted a b e → IsStoppedAt wanted a b e
+pub of_stopped : (wanted : Coming → Result Accepted CheckError) (a b : Stream) (e : CheckError) → IsCheckStopped wanted a b e → IsStoppedAt wanted a b e
 of_stopped wanted a b e h = record { got = h.got; consumes = h.consumes; stops = h.stops; counts = blames_of a b e h.counts }
 
 pub of_done : (a b : Stream) (result : Result Accepted CheckError) → CheckDone a b result → BatchesDone a b result
@@ -69,7 +69,7 @@ module _ (wanted later : Coming → Result Accepted CheckError) (a b c : Stream)
       → wanted (coming_in more answer_limit a.lines ((h.got ++ got) ++ rest)) ≡ x
   read_same got x more rest is = ap (λ l. wanted (coming_in more answer_limit a.lines l)) (append_assoc h.got got rest) ∙ (h.same more (got ++ rest) ∙ is)
 
-  read_stops : (got : List ℕ) (e : CheckError) → StopsAs later b c got e → StopsAs wanted a c (h.got ++ got) e
+  read_stops : (got : List ℕ) (e : CheckError) → CheckStopsAs later b c got e → CheckStopsAs wanted a c (h.got ++ got) e
   read_stops got (Fault fault) (inl settles) = inl (λ more rest. read_same got (Err (Fault fault)) more rest (settles more rest))
   read_stops got (Fault fault) (inr ended) = inr (h.same false got ∙ ended.0, ended-then a.left b.left c.left h.got h.consumes ended.1)
   read_stops got TooLong settles = λ more rest. read_same got (Err TooLong) more rest (settles more rest)
@@ -139,9 +139,6 @@ answers_error a b e (Ok x) is done = absurd is
 answers_error a b e (Err x) is done = subst (λ (y : CheckError). BatchesDone a b (Err y)) (sym is) done
 
 -- the count of the source, whatever else is known of it
-calm_over : (a b c : Stream) → c.faults ≡ b.faults → c.is_strict ≡ b.is_strict → IsCalm a b → IsCalm a c
-calm_over a b c faults strict h = record { later = rw faults h.later; same = strict ∙ h.same; quiet = λ yes. faults ∙ h.quiet yes }
-
 counts_over : (a b c : Stream) (result : Result Accepted CheckError) → c.faults ≡ b.faults → c.is_strict ≡ b.is_strict → CountsAhead a b result → CountsAhead a c result
 counts_over a b c (Ok x) faults strict h = calm_over a b c faults strict h
 counts_over a b c (Err (Fault fault)) faults strict h = rw faults h

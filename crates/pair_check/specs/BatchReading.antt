@@ -12,7 +12,7 @@ use Rattle.cert_checker.specs.declared.faults.CheckError.{CheckError}
 use Rattle.cert_checker.specs.declared.faults.CheckError.TheVariants.{Fault, ReadFault, TooLong}
 use Rattle.cert_checker.specs.declared.faults.CheckError.TheVariants.{NoMemory}
 use Rattle.cert_checker.specs.declared.checking.Accepted.{Accepted}
-use Rattle.cert_checker.specs.CheckReading.{SaysOf, StopsAs, after_root, at_last}
+use Rattle.cert_checker.specs.CheckReading.{SaysOf, CheckStopsAs, after_root, at_last}
 
 -- What is known of the bytes that were read of a source that had these left before and after.
 pub record BatchesRead (before after : Option (List ℕ)) (result : Result Accepted CheckError)
@@ -64,7 +64,7 @@ pub record IsStoppedAt (wanted : Coming → Result Accepted CheckError) (before 
     (error : CheckError) : Type 0 where
   pub got : List ℕ
   pub consumes : Consumes before.left after.left got
-  pub stops : StopsAs wanted before after got error
+  pub stops : CheckStopsAs wanted before after got error
   pub counts : BlamesAhead before after error
 
 -- What the reading of the lines to "end" answers: at `Ok` the tally of the marks, with what comes

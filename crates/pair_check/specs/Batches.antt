@@ -52,10 +52,12 @@ abbrev pub batch_fault : Head → Batch → Option CheckFault
 batch_fault h b = lines_fault h b.above b.nodes.items
 
 -- Where an item of this line came, that is what was said before, or its fault, where there is one.
-abbrev pub Takes : ℕ → (Coming → Result Accepted CheckError) → (Coming → Result Accepted CheckError)
+abbrev pub TakesItem
+    : ℕ → (Coming → Result Accepted CheckError) → (Coming → Result Accepted CheckError)
     → Option CheckFault → Type 0
-Takes line before after None = (r : Coming) → r.line ≡ line → before r ≡ after r
-Takes line before after (Some fault) = (r : Coming) → r.line ≡ line → before r ≡ Err (Fault fault)
+TakesItem line before after None = (r : Coming) → r.line ≡ line → before r ≡ after r
+TakesItem line before after (Some fault) =
+    (r : Coming) → r.line ≡ line → before r ≡ Err (Fault fault)
 
 -- Where the line "end" came, which is this line, that says what is said after it, with the tally of
 -- all marks, or a fault.

@@ -9,7 +9,8 @@ ghost use Rattle.siting_definitions.specs.Marks.{tally_of};
 ghost use Rattle.siting_definitions.specs.Marks as marks;
 ghost use Rattle.answer_model.specs.Tally.{AreSmall, tally_sum};
 ghost use Rattle.cert_checker.specs.Walking.{CanStep, squares_after};
-ghost use Rattle.pair_check.specs.Batches.{Closes, Takes, batch_fault, batch_says, batch_says_with};
+ghost use Rattle.pair_check.specs.Batches.{Closes, TakesItem, batch_fault, batch_says};
+ghost use Rattle.pair_check.specs.Batches.{batch_says_with};
 ghost use Rattle.pair_check.specs.Batches.{tally_with};
 
 use crate::batch::Batch;
@@ -103,7 +104,7 @@ impl Batch {
         requires few { vec_len self.old.nodes < 65536 }
         requires line { line ≡ self.old.above + vec_len self.old.nodes + 1 }
         requires small { AreSmall (tally_sum (tally_with self.old) (tally_of (mark ∷ []))) }
-        ensures says { Takes line (batch_says_with head.now self.old (NodeItem mark))
+        ensures says { TakesItem line (batch_says_with head.now self.old (NodeItem mark))
             (batch_says head.now self.new) result }
         ensures few { result ≡ None → vec_len self.new.nodes < 65536 }
         ensures line { result ≡ None → line ≡ self.new.above + vec_len self.new.nodes }

@@ -29,6 +29,7 @@ use Rattle.bound_heap.specs.declared.entry.Entry.{Entry}
 use Rattle.pool_core.specs.Job.{Job, IsLawful, IsOffer, job_root, start_cost, cost_in}
 use Rattle.pool_core.specs.State.{State, first_state, root_entry, squares_of, split_count, raised_count}
 use Rattle.pool_core.specs.Sound.{AreTree, SearchCountsFit, StopFits, IsConsistent, EntryFits, LoggedFits, NodeFits, IsPoolOf}
+use Rattle.pool_core.specs.Logged.{IsRaisedRight, bounded_node, with_bound}
 use Rattle.pool_core.specs.Begun.{IsResumable, IsBegunFrom, is_left_open, left_count, closed_nodes, left_of}
 use Rattle.pool_core.proofs.VerdictLemmas.{reaches-true}
 use Rattle.pool_core.proofs.TreeKept.{total-map, total_entries, total_nodes, total-squares}
@@ -245,6 +246,60 @@ begun_consistent j ns leases s r b = record {
   begun = ([], b.nodes ∙ sym b.begun_nodes ∙ sym (append-nil s.beginning.nodes));
 }
 
+-- each node has its finished mark
+begun_marked : (j : Job) (ns : List Node) (leases : ℕ) → IsResumable j ns leases → All (IsMarked j.instance j.gap (start_cost j)) ns
+begun_marked j ns leases r =
+    let u = start_cost j in
+    let fit = subst (λ ts. MarksFit j.instance j.gap u ts (map (λ (n : Node). n.mark) ns)) (sym r.tree.1) r.tree.2.1 in
+    all_marked j.instance j.gap u ns fit
+
+-- the bounds of those that wait are right
+begun_entries : (j : Job) (ns : List Node) (leases : ℕ) (es : List Entry) → IsResumable j ns leases → IsPermutation (filter is_left_open ns) (map left_of es) → All (EntryFits j.instance) es
+begun_entries j ns leases es r waiting =
+    let P = IsMarked j.instance j.gap (start_cost j) in
+    let left : All P (map left_of es) =
+    All-permutation P (filter is_left_open ns) (map left_of es) waiting (All-passed is_left_open P P (λ n yes h. h) ns (begun_marked j ns leases r)) in
+    All-weaker (λ e. P (left_of e)) (EntryFits j.instance) (left-fits j.instance j.gap (start_cost j)) es (All-unmap P left_of es left)
+
+-- they wait with the fine bounds of their squares
+pub begun_right : (j : Job) (ns : List Node) (leases : ℕ) (es : List Entry) → IsResumable j ns leases → IsPermutation (filter is_left_open ns) (map left_of es) → All (IsRaisedRight j.instance) es
+begun_right j ns leases es r waiting =
+    All-weaker (EntryFits j.instance) (IsRaisedRight j.instance) (λ e fits raised. (fits.raised raised).0) es (begun_entries j ns leases es r waiting)
+
+bounded_by : (a b c : Bool) (f : ℤ) → with_bound f (cond a Shut (cond b (Bounded f) (cond c (Floor f) (Left f)))) ≡ cond a Shut (cond b (Bounded f) (cond c (Floor f) (Left f)))
+bounded_by true b c f = refl
+bounded_by false true c f = refl
+bounded_by false false true f = refl
+bounded_by false false false f = refl
+
+-- a finished mark has the fine bound
+leaf_bounded : (i : Instance) (gap : ℤ) (u : Option ℤ) (s : Square) → with_bound (fine_of i s) (leaf_mark i gap u s) ≡ leaf_mark i gap u s
+unfolding leaf_mark
+leaf_bounded i gap u s = bounded_by (is_excluded i s) (reaches u (fine_of i s +ℤ gap)) (s.level == 0) (fine_of i s)
+
+mark_bounded : (i : Instance) (gap : ℤ) (u : Option ℤ) (s : Square) (m : Mark) → marks.MarkFits i gap u (record { square = s; is_split = is_split m }) m → with_bound (fine_of i s) m ≡ m
+mark_bounded i gap u s (Split v) h = refl
+mark_bounded i gap u s Shut h = refl
+mark_bounded i gap u s (Bounded c) h = ap (with_bound (fine_of i s)) h ∙ leaf_bounded i gap u s ∙ sym h
+mark_bounded i gap u s (Floor b) h = ap (with_bound (fine_of i s)) h ∙ leaf_bounded i gap u s ∙ sym h
+mark_bounded i gap u s (Left b) h = refl
+
+map-same : {X : Type 0} (f : X → X) (xs : List X) → All (λ x. f x ≡ x) xs → map f xs ≡ xs
+map-same f [] h = refl
+map-same f (x ∷ xs) h =
+    let head : f x ≡ x = All-head (λ x. f x ≡ x) x xs h in
+    let tail = map-same f xs (All-tail (λ x. f x ≡ x) x xs h) in
+    cc
+
+-- the closed nodes have the fine bounds of their squares
+pub begun_bounded : (j : Job) (ns : List Node) (leases : ℕ) → IsResumable j ns leases → map (bounded_node j.instance) (closed_nodes ns) ≡ closed_nodes ns
+begun_bounded j ns leases r =
+    let i = j.instance in
+    let P = IsMarked i j.gap (start_cost j) in
+    map-same (bounded_node i) (closed_nodes ns)
+    (All-passed (λ n. not (is_left_open n)) P (λ n. bounded_node i n ≡ n)
+    (λ n yes h. ap (λ (m : Mark). let k : Node = record { square = n.square; mark = m } in k) (mark_bounded i j.gap (start_cost j) n.square n.mark h)) ns (begun_marked j ns leases r))
+
 -- its bounds and marks are right, with the start as the incumbent
 begun_costs : (j : Job) (ns : List Node) (leases : ℕ) (s : State) → IsLawful j → IsResumable j ns leases → IsBegunFrom j ns leases s → Costs j (start_cost j) s
 begun_costs j ns leases s lawful r b =
@@ -252,15 +307,12 @@ begun_costs j ns leases s lawful r b =
     let u = start_cost j in
     let P = IsMarked i j.gap u in
     let Q = NodeFits i j.gap u in
-    let fit = subst (λ ts. MarksFit i j.gap u ts (map (λ (n : Node). n.mark) ns)) (sym r.tree.1) r.tree.2.1 in
-    let marked : All P ns = all_marked i j.gap u ns fit in
-    let left : All P (map left_of s.waiting) =
-    All-permutation P (filter is_left_open ns) (map left_of s.waiting) b.waiting (All-passed is_left_open P P (λ n yes h. h) ns marked) in
+    let marked : All P ns = begun_marked j ns leases r in
     let closed : All Q (closed_nodes ns) =
     All-passed (λ n. not (is_left_open n)) P Q (λ n yes h. closed-fits i j.gap u n.square n.mark (not-true (is_open n.mark) yes) h) ns marked in
     record {
       job = lawful;
-      waiting = All-weaker (λ e. P (left_of e)) (EntryFits i) (left-fits i j.gap u) s.waiting (All-unmap P left_of s.waiting left);
+      waiting = begun_entries j ns leases s.waiting r b.waiting;
       leased = subst (All (EntryFits i)) (sym b.leased) (All-nil (EntryFits i));
       nodes = subst (All Q) (sym b.nodes) closed;
       start = at_most-refl u;

@@ -1,7 +1,8 @@
 -- A waiting entry becomes leased: the step, and what a pool keeps.
-use Rattle.std.proofs.Common.{◌≡◌, ℕ, ◌+◌, ◌<◌, ◌≤◌, ◌≤ℤ◌, List, [], ◌∷◌, ◌++◌, vec_capacity, take, None, refl, sym, ap, ◌∙◌, subst, arith}
+use Rattle.std.proofs.Common.{◌≡◌, ℕ, ◌+◌, ◌<◌, ◌≤◌, ◌≤ℤ◌, List, [], ◌∷◌, ◌++◌, map, vec_capacity, take, None, refl, sym, ap, ◌∙◌, subst, arith}
 use Rattle.std.specs.List.{All, Contains}
 use Rattle.std.specs.List.Sorted.{IsPermutation}
+use Rattle.std.proofs.lemmas.List.Elements.{All-push}
 use Rattle.std.proofs.lemmas.List.Sorted.{Contains-permutation, IsPermutation-sym, IsPermutation-to_front}
 use Rattle.bound_heap.specs.declared.entry.Entry.{Entry}
 use Rattle.discard_log.specs.declared.node.Node.{Node}
@@ -10,8 +11,10 @@ use Rattle.pool_core.specs.declared.pool.Pool.TheInside.{Inside}
 use Rattle.pool_core.specs.Job.{Job, IsJob}
 use Rattle.pool_core.specs.State.{State, Beginning, split_count}
 use Rattle.pool_core.specs.Machine.{Leases}
+use Rattle.pool_core.specs.Logged.{IsRaisedRight, bounded_node}
 use Rattle.pool_core.specs.Pool.{PoolFits, state_of}
 use Rattle.pool_core.proofs.CountsKept.{counts_lease, leaves_waiting, size_lease}
+use Rattle.pool_core.proofs.LoggedLemmas.{right_taken}
 
 -- what the code does with the fields of a pool
 pub record IsLeasing (e : Entry) (a b : Inside) : Type 0 where
@@ -25,6 +28,7 @@ pub record IsLeasing (e : Entry) (a b : Inside) : Type 0 where
   pub leases : b.leases ≡ a.leases + 1
   pub job : b.job ≡ a.job
   pub log : b.log ≡ a.log
+  pub history : b.history.nodes ≡ a.history.nodes
   pub kept : b.kept ≡ a.kept
   pub stop : b.stop ≡ a.stop
   pub begun_nodes : b.begun_nodes ≡ a.begun_nodes
@@ -44,7 +48,6 @@ beginning_is m n i j raised raised' leases leases' e f g h =
 -- what the code does is a lease
 pub leasing_step : (e : Entry) (a b : Inside) → IsLeasing e a b → Leases e (state_of a) (state_of b)
 leasing_step e a b h =
-    let nodes : b.log.nodes ≡ a.log.nodes = ap (λ (l : LogView). l.nodes) h.log in
     let last = IsPermutation-sym (a.leased.items ++ e ∷ []) (e ∷ a.leased.items) (IsPermutation-to_front a.leased.items e) in
     record {
       going = h.going;
@@ -54,10 +57,10 @@ leasing_step e a b h =
       leased = rw h.leased last;
       leases = h.leases;
       job = h.job;
-      nodes = nodes;
+      nodes = h.history;
       kept = h.kept;
       stop = h.stop;
-      beginning = beginning_is b.log.nodes a.log.nodes b.begun_nodes a.begun_nodes b.begun_raised a.begun_raised b.begun_leases a.begun_leases nodes h.begun_nodes h.begun_raised h.begun_leases;
+      beginning = beginning_is b.history.nodes a.history.nodes b.begun_nodes a.begun_nodes b.begun_raised a.begun_raised b.begun_leases a.begun_leases h.history h.begun_nodes h.begun_raised h.begun_leases;
     }
 
 -- and leaves a pool
@@ -69,9 +72,16 @@ leasing_fits e a b h fits =
     let pool : b.job.pool ≡ a.job.pool = ap (λ (j : Job). j.pool) h.job in
     let budget : b.job.budget ≡ a.job.budget = ap (λ (j : Job). j.budget) h.job in
     let room : b.log.spare ≡ a.log.spare = ap (λ (l : LogView). l.spare) h.log in
-    let begun_splits : split_count (take b.begun_nodes b.log.nodes) ≡ split_count (take a.begun_nodes a.log.nodes) = ap (λ n. split_count (take n b.log.nodes)) h.begun_nodes ∙ ap (λ (l : LogView). split_count (take a.begun_nodes l.nodes)) h.log in
+    let begun_splits : split_count (take b.begun_nodes b.history.nodes) ≡ split_count (take a.begun_nodes a.history.nodes) = ap (λ n. split_count (take n b.history.nodes)) h.begun_nodes ∙ ap (λ (ns : List Node). split_count (take a.begun_nodes ns)) h.history in
+    let i = a.job.instance in
+    let out = right_taken i e a.waiting.entries b.waiting.entries fits.waiting_raised h.waiting in
+    let logged : b.log.nodes ≡ map (bounded_node i) b.history.nodes = ap (λ (l : LogView). l.nodes) h.log ∙ fits.logged ∙ ap (map (bounded_node i)) (sym h.history) in
+    let leased : All (IsRaisedRight i) b.leased.items = subst (All (IsRaisedRight i)) (sym h.leased) (All-push (IsRaisedRight i) a.leased.items e fits.leased_raised out.0) in
     record {
       job = subst IsJob (sym h.job) fits.job;
+      logged = subst (λ (j : Job). b.log.nodes ≡ map (bounded_node j.instance) b.history.nodes) (sym h.job) logged;
+      waiting_raised = subst (λ (j : Job). All (IsRaisedRight j.instance) b.waiting.entries) (sym h.job) out.1;
+      leased_raised = subst (λ (j : Job). All (IsRaisedRight j.instance) b.leased.items) (sym h.job) leased;
       counts = counts;
       size = size_lease e (state_of a) (state_of b) step fits.size;
       begun = omega (arith, fits.begun, h.begun_nodes, more.nodes);

@@ -1,6 +1,7 @@
 pub mod CountsKept
 mod VerdictLemmas
-mod MarksKept
+pub mod LoggedLemmas
+pub mod MarksKept
 pub mod TreeKept
 pub mod SoundSteps
 pub mod BegunLemmas
@@ -10,3 +11,4 @@ mod Leasing
 mod Returning
 mod Beginnings
 mod Resumed
+mod Walks

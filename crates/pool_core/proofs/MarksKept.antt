@@ -123,11 +123,15 @@ entries_from-fit j e seen (Floor b) h = All-nil (EntryFits j.instance)
 
 -- ---- the lists of a state
 module _ (i : Instance) where
+  -- an entry that is leased is right where all that waited were
+  pub lease-fits : (e : Entry) (before after : State) → Leases e before after → All (EntryFits i) before.waiting → EntryFits i e
+  lease-fits e before after h waiting =
+      All-head (EntryFits i) e after.waiting (All-permutation (EntryFits i) before.waiting (e ∷ after.waiting) h.waiting waiting)
+
   pub leased-fits : (e : Entry) (before after : State) → Leases e before after → All (EntryFits i) before.waiting → All (EntryFits i) before.leased → All (EntryFits i) after.leased
   leased-fits e before after h waiting leased =
-      let out = All-permutation (EntryFits i) before.waiting (e ∷ after.waiting) h.waiting waiting in
       All-permutation (EntryFits i) (e ∷ before.leased) after.leased h.leased
-      (All-cons (EntryFits i) e before.leased (All-head (EntryFits i) e after.waiting out) leased)
+      (All-cons (EntryFits i) e before.leased (lease-fits e before after h waiting) leased)
 
   pub left-fits : (e : Entry) (before after : State) → Leases e before after → All (EntryFits i) before.waiting → All (EntryFits i) after.waiting
   left-fits e before after h waiting =

@@ -1,5 +1,5 @@
 -- What a finding says: each comes of tests on the entry and on the number that was seen.
-use Rattle.std.proofs.Common.{◌≡◌, ℕ, ◌-◌, ◌<◌, ◌≤◌, ◌==◌, nat_lt, ℤ, pos, ◌+ℤ◌, ◌-ℤ◌, ◌≤ℤ◌, ◌<ℤ◌, true, false, cond, not, ◌&&◌, Option, None, Some, refl, subst, arith}
+use Rattle.std.proofs.Common.{◌≡◌, ℕ, ◌-◌, ◌<◌, ◌≤◌, ◌==◌, nat_lt, ℤ, pos, ◌+ℤ◌, ◌-ℤ◌, ◌≤ℤ◌, ◌<ℤ◌, Bool, true, false, cond, not, ◌&&◌, Option, None, Some, refl, subst, arith}
 use Rattle.std.specs.Int.{int_max}
 use Rattle.std.proofs.lemmas.Bool.{cond_both, and_parts, not-true, eqb-true, eqb-false, ltb-true, false≢true}
 use Rattle.std.proofs.lemmas.Int.{ints, clamps}
@@ -11,10 +11,11 @@ use Rattle.siting_definitions.proofs.Integers.{int_le-true, int_le-false, lt-int
 use Rattle.objectives.proofs.Sizes.{weight-positive}
 use Rattle.objectives.proofs.CoarseLemmas.{coarse_of-le-fine_of, fine_of-le-coarse_of}
 use Rattle.bound_heap.specs.declared.entry.Entry.{Entry}
+use Rattle.pool_core.specs.declared.verdict.Bounds.TheVariants as bounds
 use Rattle.pool_core.specs.declared.verdict.Finding.{Finding}
 use Rattle.pool_core.specs.declared.verdict.Finding.TheVariants.{Excluded, Bounded, Raise, Part, Floor}
 use Rattle.pool_core.specs.Job.{Job}
-use Rattle.pool_core.specs.Verdict.{finding_of, finding_of_coarse, finding_of_fine}
+use Rattle.pool_core.specs.Verdict.{bounds_of, finding_by, finding_of, finding_of_coarse, finding_of_fine}
 use Rattle.pool_core.specs.Sound.{EntryFits}
 
 -- a number that is at most b, where one is known to be
@@ -30,6 +31,18 @@ reaches-false n b h = int_le-false n b h
 pub reaches-less : (u : Option ℤ) (a b : ℤ) → a ≤ℤ b → reaches u b ≡ false → reaches u a ≡ false
 reaches-less None a b le h = h
 reaches-less (Some n) a b le h = lt-int_le n a (let less = int_le-false n b h in omega (arith, ints, less))
+
+-- the finding by the bounds of an entry is the one on it
+pub finding_by_its_bounds : (j : Job) (e : Entry) (seen : Option ℤ) → finding_by j e.square (bounds_of j e) seen ≡ finding_of j e seen
+unfolding finding_of bounds_of
+finding_by_its_bounds j e seen = split (is_excluded j.instance e.square) e.raised
+  where
+    split : (x r : Bool)
+        → finding_by j e.square (cond x bounds.Excluded (cond r (bounds.Raised e.bound) (bounds.Both (int_max e.bound (coarse_of j.instance e.square)) (fine_of j.instance e.square)))) seen
+        ≡ cond x Excluded (cond r (finding_of_fine j e.square e.bound seen) (finding_of_coarse j e.square (int_max e.bound (coarse_of j.instance e.square)) (fine_of j.instance e.square) seen))
+    split true r = refl
+    split false true = refl
+    split false false = refl
 
 -- what a finding says of the entry and of the number that was seen
 abbrev pub FindingFits : Job → Entry → Option ℤ → Finding → Type 0
@@ -54,7 +67,7 @@ fine-fits j e seen open_square is =
     (λ above. (open_square, omega (arith, eqb-false e.square.level 0 above), least, subst (λ b. reaches seen (b +ℤ j.gap) ≡ false) is short)))
 
 -- so is the one by a lesser bound
-coarse-fits : (j : Job) (e : Entry) (c : ℤ) (seen : Option ℤ) → is_excluded j.instance e.square ≡ false → e.raised ≡ false → c ≤ℤ fine_of j.instance e.square → fine_of j.instance e.square ≤ℤ ((c +ℤ pos (weight j.instance.points)) -ℤ pos 1) → FindingFits j e seen (finding_of_coarse j e.square c seen)
+coarse-fits : (j : Job) (e : Entry) (c : ℤ) (seen : Option ℤ) → is_excluded j.instance e.square ≡ false → e.raised ≡ false → c ≤ℤ fine_of j.instance e.square → fine_of j.instance e.square ≤ℤ ((c +ℤ pos (weight j.instance.points)) -ℤ pos 1) → FindingFits j e seen (finding_of_coarse j e.square c (fine_of j.instance e.square) seen)
 coarse-fits j e c seen open_square fresh low high =
     let f = fine_of j.instance e.square in
     let far = ((c +ℤ pos (weight j.instance.points)) -ℤ pos 1) +ℤ j.gap in

@@ -3,6 +3,7 @@ pub mod JobFields
 pub mod Verdict
 pub mod State
 pub mod Machine
+pub mod Logged
 pub mod Sound
 pub mod Seats
 pub mod Best

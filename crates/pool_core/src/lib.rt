@@ -4,6 +4,7 @@
 mod best;
 mod closed;
 mod give_back;
+mod history;
 mod job;
 mod laws;
 mod lease;
@@ -22,4 +23,4 @@ pub use laws::{a_begun_pool_is_sound, every_run_is_sound};
 pub use lease::{Lease, LeaseAnswer};
 pub use pool::{NoMemory, Pool};
 pub use stop::Stop;
-pub use verdict::{Finding, Verdict, judge};
+pub use verdict::{Bounds, Finding, Verdict, bounds_of, fine_in, judge, judge_by};

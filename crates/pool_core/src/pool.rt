@@ -9,8 +9,10 @@ ghost use Rattle.pool_core.specs.State as states;
 ghost use Rattle.pool_core.specs.State.{first_state, squares_of};
 ghost use Rattle.pool_core.specs.Begun.{IsBegunFrom, IsResumable, closed_nodes};
 ghost use Rattle.pool_core.specs.Begun.{is_left_open, left_count, left_of};
+ghost use Rattle.pool_core.specs.Logged.{bounded_node};
 ghost use Rattle.bound_heap.specs.declared.entry.Entry as entries;
 
+use crate::history::History;
 use crate::job::Job;
 use crate::stop::Stop;
 use bound_heap::{Entry, Heap};
@@ -49,7 +51,10 @@ pub struct Pool {
     pub(crate) job: Job,
     pub(crate) waiting: Heap,
     pub(crate) leased: Vec<Entry>,
+    /// The nodes of the history, each settled one with its fine bound.
     pub(crate) log: Log,
+    /// The nodes of the state.
+    pub(crate) history: History,
     pub(crate) leases: u32,
     pub(crate) kept: u32,
     pub(crate) stop: Option<Stop>,
@@ -96,6 +101,7 @@ impl Pool {
             waiting,
             leased,
             log,
+            history: History::new(),
             leases: 0,
             kept: 0,
             stop: None,
@@ -117,6 +123,7 @@ impl Pool {
         requires { IsResumable job.now nodes.now leases }
         ensures { IfOk result (IsBegunFrom job.now nodes.now leases) }
     {
+        let history = History::of(nodes);
         let nodes = nodes.nodes();
         let count = nodes.len();
         let mut waiting = Heap::with_room(alloc, job.pool as usize)?;
@@ -130,6 +137,7 @@ impl Pool {
             waiting,
             leased,
             log,
+            history,
             leases,
             kept: 0,
             stop: None,
@@ -160,11 +168,13 @@ impl Pool {
         (self.waiting.len() + self.leased.len()) as u32
     }
 
-    /// The nodes, and each waiting square left open with its bound. Where they are the squares of
-    /// one tree, they come in its preorder.
+    /// The nodes, each settled one with its fine bound, and each waiting square left open with its
+    /// bound. Where they are the squares of one tree, they come in its preorder.
     pub fn into_nodes(self) -> NodeList
         requires { self.leased ≡ [] }
-        ensures nodes { IsPermutation (self.nodes ++ map left_of self.waiting) result }
+        ensures nodes { IsPermutation
+            (map (bounded_node self.job.instance) self.nodes ++ map left_of self.waiting)
+            result }
         ensures preorder { (t : Tree) → Fits t (job_root self.job).level
             → IsPermutation (squares_of self) (preorder t (job_root self.job))
             → map tree_square result ≡ preorder t (job_root self.job) }

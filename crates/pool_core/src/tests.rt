@@ -9,7 +9,7 @@ ghost use Rattle.pool_core.specs.Begun.{IsResumable};
 use super::*;
 use answer_model::leaf_mark;
 use candidate_sites::{centre_site, opening};
-use case_maker::one_town;
+use case_maker::{make_instance, one_town};
 use discard_log::{Log, Mark, Node, NodeList};
 use dyadic_square::Square;
 use exclusion::excluded;
@@ -138,6 +138,62 @@ fn nodes(rt: &impl Abort, alloc: Global, job: &Job) -> NodeList
     log.in_preorder(root)
 }
 
+/// Checks that each leaf that was settled has the finished mark for the least upper cost.
+fn check_settled(rt: &impl Abort, job: &Job, least: Option<i64>, nodes: &NodeList) {
+    for node in nodes.nodes() {
+        match node.mark {
+            Mark::Split(_) => {}
+            Mark::Left(_) => {}
+            _ => {
+                let mark = leaf_mark(&job.instance, job.gap, least, node.square);
+                assert_eq!(rt; node.mark, mark);
+            }
+        }
+    }
+}
+
+/// Takes and gives back so many leases in turn, with what is seen for each, and says whether a
+/// square was raised.
+fn raises(rt: &impl Abort, pool: &mut Pool, job: &Job, seen: Option<i64>, leases: u32) -> bool
+    requires job { pool.old.job ≡ job.now }
+    requires leased { pool.old.leased ≡ [] }
+    ensures job { pool.new.job ≡ job.now }
+    ensures leased { pool.new.leased ≡ [] }
+{
+    let mut is_raised = false;
+    for _ in 0..leases {
+        let (_, _, _, _, given) = step(rt, pool, job, seen);
+        is_raised |= given == Given::Raised;
+    }
+    is_raised
+}
+
+/// The job of one town of weight 869 that a seed of 7 makes, with no gap.
+fn wide_job(rt: &impl Abort, alloc: Global) -> Job {
+    let instance = make_instance(alloc, 7, 1).expect(rt, "memory");
+    let _count = instance.points().len();
+    Job::new(instance, 0, 1000, 1000, None)
+}
+
+#[test]
+fn settled_squares_have_their_fine_bounds(rt: HostRuntime) {
+    // What is seen, for how many leases, whether a square is raised, and how many squares there
+    // are.
+    let cases = [
+        (0, 1, false, 1),
+        (1_000_000, 12, false, 17),
+        (870, 357, true, 341),
+    ];
+    for (seen, leases, is_raised, count) in cases {
+        let job = wide_job(&rt, rt.alloc());
+        let mut pool = Pool::begin(rt.alloc(), &job).expect(&rt, "memory");
+        assert_eq!(rt; raises(&rt, &mut pool, &job, Some(seen), leases), is_raised);
+        let nodes = pool.into_nodes();
+        assert_eq!(rt; nodes.nodes().len(), count);
+        check_settled(&rt, &job, Some(seen), &nodes);
+    }
+}
+
 #[test]
 fn squares_left_open(rt: HostRuntime) {
     let job = job(&rt, rt.alloc(), 10, 100000);
@@ -163,7 +219,9 @@ fn squares_left_open(rt: HostRuntime) {
     );
     assert_eq!(rt; pool.open_count(), 6);
     assert_eq!(rt; pool.leases(), 2);
-    assert_eq!(rt; pool.into_nodes().nodes().len(), 9);
+    let nodes = pool.into_nodes();
+    assert_eq!(rt; nodes.nodes().len(), 9);
+    check_settled(&rt, &job, Some(185364), &nodes);
 }
 
 /// The stop that is answered, if there is one.

@@ -7,11 +7,11 @@ use Rattle.port_io.specs.declared.whole.ReadAll.TheVariants.{TooLong, ReadFault,
 -- How many bytes were read where this is answered. An input is too long as soon as more bytes came
 -- than the limit, and at most a piece is read past it. A fault, or want of memory, came before
 -- that.
-abbrev pub StopsWithin : {T : Type 0} → ℕ → ℕ → Result T ReadAll → Type 0
-StopsWithin limit read (Ok bytes) = read ≤ limit
-StopsWithin limit read (Err TooLong) = (limit < read) × (read ≤ limit + piece_size)
-StopsWithin limit read (Err ReadFault) = read ≤ limit
-StopsWithin limit read (Err NoMemory) = read ≤ limit
+abbrev pub ReadsAtMost : {T : Type 0} → ℕ → ℕ → Result T ReadAll → Type 0
+ReadsAtMost limit read (Ok bytes) = read ≤ limit
+ReadsAtMost limit read (Err TooLong) = (limit < read) × (read ≤ limit + piece_size)
+ReadsAtMost limit read (Err ReadFault) = read ≤ limit
+ReadsAtMost limit read (Err NoMemory) = read ≤ limit
 
 -- what holds where something else than `ReadFault` is answered
 abbrev pub UnlessReadFault : {T : Type 0} → Result T ReadAll → Type 0 → Type 0

@@ -4,7 +4,7 @@ ghost use Rattle.std.specs.Prelude.{◌≡◌, ◌-◌, ◌<◌, ◌≤◌, [], 
 ghost use Rattle.std.specs.Prelude.{IfSome, IsErr, IsErrOf, IsTrue};
 ghost use Rattle.port_io.specs.Faults.{Rose};
 ghost use Rattle.port_io.specs.Bytes.{HasRest};
-ghost use Rattle.port_io.specs.Whole.{StopsWithin, UnlessReadFault};
+ghost use Rattle.port_io.specs.Whole.{ReadsAtMost, UnlessReadFault};
 
 use crate::ports::Source;
 use std::alloc::Global;
@@ -57,7 +57,7 @@ pub fn read_up_to<S: Source>(
 
     // It stops at the first of these.
     ensures stop { IfSome (S.left source.old) (λ xs. IfSome (S.left source.new)
-        (λ ys. StopsWithin limit (length xs - length ys) result)) }
+        (λ ys. ReadsAtMost limit (length xs - length ys) result)) }
 
     // Whatever the answer, the source goes on telling, and its count has not fallen.
     ensures rest { IfSome (S.left source.old) (λ xs. HasRest xs (S.left source.new)) }

@@ -39,7 +39,7 @@ use Rattle.cert_checker.specs.Steps.{RejectsAs}
 use Rattle.cert_checker.proofs.ValidLemmas.{accepted-valid}
 use Rattle.cert_checker.proofs.LimitLemmas.{checking-not_long}
 use Rattle.resume_job.specs.Loading.{AreOfValid}
-use Rattle.resume_job.specs.Steps.{IsNext, IsTextOf, RejectsText}
+use Rattle.resume_job.specs.Steps.{IsNext, IsTextWithMarks, RejectsText}
 
 -- ---- the check
 -- a count that stands still didn't rise
@@ -54,7 +54,7 @@ rejects_text bytes TooLong within rejects blames = absurd (checking-not_long byt
 rejects_text bytes NoMemory within rejects blames = tt
 
 -- bytes that are accepted are the text of a valid answer, with as many marks as it is said to have nodes
-pub accepted_text : (bytes : List ℕ) (x : Accepted) → checking bytes ≡ Ok x → IsTextOf bytes x.nodes
+pub accepted_text : (bytes : List ℕ) (x : Accepted) → checking bytes ≡ Ok x → IsTextWithMarks bytes x.nodes
 unfolding tally_of
 accepted_text bytes x said =
     let is = accepted-valid bytes x said in
@@ -127,7 +127,7 @@ halfway_at a h now rest valid reads told =
         (ap (λ (p : Head × Coming). p.0) pair, ap (λ (p : Head × Coming). p.1) pair)
 
 -- the head was read
-halfway_begins : (bytes : List ℕ) (count : ℕ) (of : IsTextOf bytes count) (h : Head) (root : Square) (squares : List Square) (now : Option Coming) (ns : List Node)
+halfway_begins : (bytes : List ℕ) (count : ℕ) (of : IsTextWithMarks bytes count) (h : Head) (root : Square) (squares : List Square) (now : Option Coming) (ns : List Node)
     → ReadsTo (head_reading (coming_of bytes)) now (Ok h) → root ≡ root_of h.instance → squares ≡ root ∷ [] → ns ≡ []
     → (h ≡ of.answer.head) × IsHalfway of.answer 0 squares now ns
 halfway_begins bytes count of h root squares now ns reads root_is squares_are none =
@@ -237,12 +237,12 @@ parts_text bytes a h ns text valid head nodes = text ∙ ap answer_text (sym (sa
 -- ---- the whole text
 -- of the text of a valid answer the head and so many nodes were read
 pub record IsUnderway (bytes : List ℕ) (count : ℕ) (h : Head) (done : ℕ) (squares : List Square) (now : Option Coming) (ns : List Node) : Type 0 where
-  pub of : IsTextOf bytes count
+  pub of : IsTextWithMarks bytes count
   pub head : h ≡ of.answer.head
   pub halfway : IsHalfway of.answer done squares now ns
 
 pub underway_begins : (bytes : List ℕ) (count : ℕ) (h : Head) (root : Square) (squares : List Square) (before now : Option Coming) (ns : List Node)
-    → IsTextOf bytes count → before ≡ Some (coming_of bytes) → IfSome before (λ r. ReadsTo (head_reading r) now (Ok h)) → root ≡ root_of h.instance → squares ≡ root ∷ [] → ns ≡ []
+    → IsTextWithMarks bytes count → before ≡ Some (coming_of bytes) → IfSome before (λ r. ReadsTo (head_reading r) now (Ok h)) → root ≡ root_of h.instance → squares ≡ root ∷ [] → ns ≡ []
     → IsUnderway bytes count h 0 squares now ns
 underway_begins bytes count h root squares before now ns of at reads root_is squares_are none =
     let begun = halfway_begins bytes count of h root squares now ns (subst (λ o. IfSome o (λ r. ReadsTo (head_reading r) now (Ok h))) at reads) root_is squares_are none in

@@ -1,5 +1,7 @@
 -- Loading a valid answer: the parts that it is taken apart into, and what each answer tells.
-use Rattle.std.specs.Prelude.{◌≡◌, ℕ, ◌+◌, ◌<◌, ◌≤◌, List, [], length, Option, Some, Result, Ok, Err, ⊤}
+use Rattle.std.specs.Prelude.{◌≡◌, ℕ, ◌+◌, ◌<◌, ◌≤◌, List, [], length, Option, Some, Result, Ok}
+use Rattle.std.specs.Prelude.{Err, ⊤}
+use Rattle.port_io.specs.Bytes.{piece_size}
 use Rattle.port_io.specs.declared.whole.ReadAll.{ReadAll}
 use Rattle.port_io.specs.declared.whole.ReadAll.TheVariants.{TooLong as ReadTooLong}
 use Rattle.port_io.specs.declared.whole.ReadAll.TheVariants.{ReadFault as ReadFailed}
@@ -56,17 +58,17 @@ IsOfSome NoMemory = ⊤
 
 -- How many bytes were read where this is answered: at most as many as may be, but where more came,
 -- and then at most a piece more.
-abbrev pub LoadStopsWithin : {T : Type 0} → ℕ → Result T LoadError → Type 0
-LoadStopsWithin read (Ok loaded) = read ≤ load_limit
-LoadStopsWithin read (Err TooLong) = (load_limit < read) × (read ≤ load_limit + 4096)
-LoadStopsWithin read (Err ReadFault) = read ≤ load_limit
-LoadStopsWithin read (Err (Check fault)) = read ≤ load_limit
-LoadStopsWithin read (Err NoMemory) = read ≤ load_limit
+abbrev pub LoadReadsAtMost : {T : Type 0} → ℕ → Result T LoadError → Type 0
+LoadReadsAtMost read (Ok loaded) = read ≤ load_limit
+LoadReadsAtMost read (Err TooLong) = (load_limit < read) × (read ≤ load_limit + piece_size)
+LoadReadsAtMost read (Err ReadFault) = read ≤ load_limit
+LoadReadsAtMost read (Err (Check fault)) = read ≤ load_limit
+LoadReadsAtMost read (Err NoMemory) = read ≤ load_limit
 
 -- what holds where something else than `ReadFault` is answered
-abbrev pub UnlessReadFault : {T : Type 0} → Result T LoadError → Type 0 → Type 0
-UnlessReadFault (Ok loaded) holds = holds
-UnlessReadFault (Err TooLong) holds = holds
-UnlessReadFault (Err ReadFault) holds = ⊤
-UnlessReadFault (Err (Check fault)) holds = holds
-UnlessReadFault (Err NoMemory) holds = holds
+abbrev pub UnlessLoadReadFault : {T : Type 0} → Result T LoadError → Type 0 → Type 0
+UnlessLoadReadFault (Ok loaded) holds = holds
+UnlessLoadReadFault (Err TooLong) holds = holds
+UnlessLoadReadFault (Err ReadFault) holds = ⊤
+UnlessLoadReadFault (Err (Check fault)) holds = holds
+UnlessLoadReadFault (Err NoMemory) holds = holds

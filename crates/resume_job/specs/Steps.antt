@@ -35,7 +35,7 @@ RefusesText bytes (Check fault) = checking bytes ≡ Err (Fault fault)
 RefusesText bytes NoMemory = ⊤
 
 -- the bytes are the text of a valid answer with so many marks
-pub record IsTextOf (bytes : List ℕ) (count : ℕ) : Type 0 where
+pub record IsTextWithMarks (bytes : List ℕ) (count : ℕ) : Type 0 where
   pub answer : Answer
   pub valid : IsValid answer
   pub text : bytes ≡ answer_text answer

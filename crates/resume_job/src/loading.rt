@@ -6,9 +6,9 @@ ghost use Rattle.port_io.specs.Bytes.{HasRest};
 ghost use Rattle.port_io.specs.Faults.{Rose};
 ghost use Rattle.siting_definitions.specs.AnswerText.{answer_text};
 ghost use Rattle.search_answer.specs.Ending.{answer_of};
-ghost use Rattle.resume_job.specs.Loading.{AreOfValid, IsOfSome, LoadsTo, LoadStopsWithin};
-ghost use Rattle.resume_job.specs.Loading.{UnlessReadFault, load_error_of};
-ghost use Rattle.resume_job.specs.Steps.{IsTextOf, RefusesText, RejectsText};
+ghost use Rattle.resume_job.specs.Loading.{AreOfValid, IsOfSome, LoadsTo, LoadReadsAtMost};
+ghost use Rattle.resume_job.specs.Loading.{UnlessLoadReadFault, load_error_of};
+ghost use Rattle.resume_job.specs.Steps.{IsTextWithMarks, RefusesText, RejectsText};
 
 use crate::nodes::read_text;
 use cert_checker::{CheckError, CheckFault, check};
@@ -69,11 +69,11 @@ pub fn load<S: Source>(alloc: Global, source: &mut S) -> Result<(Head, NodeList)
 
     // No more was read than the limit; where more came, at most a piece past it.
     ensures stop { IfSome (S.left source.old) (λ xs. IfSome (S.left source.new)
-        (λ ys. LoadStopsWithin (length xs - length ys) result)) }
+        (λ ys. LoadReadsAtMost (length xs - length ys) result)) }
 
     // Over a strict source no read failed where the answer isn't `ReadFault`.
     ensures heard { IsTrue S.is_strict
-        → UnlessReadFault result (S.faults source.new ≡ S.faults source.old) }
+        → UnlessLoadReadFault result (S.faults source.new ≡ S.faults source.old) }
 
     // Whatever the answer, the source goes on telling.
     ensures rest { IfSome (S.left source.old) (λ xs. HasRest xs (S.left source.new)) }
@@ -96,7 +96,7 @@ fn load_text(alloc: Global, bytes: &[u8]) -> Result<(Head, NodeList), LoadError>
 /// How many nodes the valid answer has whose text these bytes are.
 fn check_text(alloc: Global, bytes: &[u8]) -> Result<u64, LoadError>
     requires { length bytes.now ≤ LOAD_LIMIT }
-    ensures text { IfOk result (IsTextOf bytes.now) }
+    ensures text { IfOk result (IsTextWithMarks bytes.now) }
     ensures error { IfErr result (RefusesText bytes.now) }
 {
     let mut source = SliceSource::new(bytes);

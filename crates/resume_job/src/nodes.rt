@@ -8,7 +8,7 @@ ghost use Rattle.dyadic_square.specs.Walk.{coming_after};
 ghost use Rattle.certificate.specs.ReaderView.{coming, source_of};
 ghost use Rattle.search_answer.specs.Ending.{answer_of};
 ghost use Rattle.resume_job.specs.Loading.{AreOfValid};
-ghost use Rattle.resume_job.specs.Steps.{IsNext, IsTextOf};
+ghost use Rattle.resume_job.specs.Steps.{IsNext, IsTextWithMarks};
 
 use crate::loading::LoadError;
 use answer_model::is_split;
@@ -24,7 +24,7 @@ pub(crate) fn read_text(
     bytes: &[u8],
     count: u64,
 ) -> Result<(Head, NodeList), LoadError>
-    requires { IsTextOf bytes.now count }
+    requires { IsTextWithMarks bytes.now count }
     ensures valid { IfOk result (λ loaded. AreOfValid loaded.0 loaded.1) }
     ensures text { IfOk result (λ loaded. bytes.now ≡ answer_text (answer_of loaded.0 loaded.1)) }
     ensures memory { OnErr result (result ≡ Err LoadError.NoMemory) }

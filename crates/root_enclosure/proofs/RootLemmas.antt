@@ -1,7 +1,6 @@
 -- Whole square roots: they exist, they are the only ones, and how they grow.
-use Rattle.std.proofs.Common.{◌≡◌, ℕ, zero, suc, ◌+◌, ◌-◌, ◌*◌, ◌/◌, ◌%◌, ◌^◌, ◌<◌, ◌≤◌, Bool, true, false, cond, eqb, ltb, leb, refl, add-zero, arith, ⊎_elim}
+use Rattle.std.proofs.Common.{◌≡◌, ℕ, zero, suc, ◌+◌, ◌*◌, ◌/◌, ◌^◌, ◌<◌, ◌≤◌, Bool, true, false, cond, ◌&&◌, eqb, ltb, leb, refl, add-zero, arith, ⊎_elim}
 use Rattle.std.proofs.lemmas.Bool.{cases_lt}
-use Rattle.std.proofs.lemmas.Nat.{mul-lt}
 use mir.Val.{bool_byte}
 use borrow.Author.Tests.{eqb-true, eqb-false, ltb-true, ltb-false}
 use lib.Dec.{leb→le, nleb→lt}
@@ -62,16 +61,6 @@ floor_root-mono m n h =
     let below = (floor_root-is m).at_most in
     le-floor_root n (floor_root m) (omega arith)
 
--- what the square of f leaves of m, where that is computed at 128 bits and found small
-pub rest_is : (m f : ℕ) → m < 2 ^ 126 → f < 2 ^ 63 → (m + (2 ^ 128 - f * f)) % 2 ^ 128 ≤ 2 * f → f * f + (m + (2 ^ 128 - f * f)) % 2 ^ 128 ≡ m
-rest_is m f hm hf h =
-    let small : f * f < 2 ^ 63 * 2 ^ 63 = mul-lt f f (2 ^ 63) (2 ^ 63) hf hf in
-    omega arith
-
--- a root rounded down, by what its square leaves
-pub IsFloorRoot-rest : (m f rest : ℕ) → f * f + rest ≡ m → rest ≤ 2 * f → IsFloorRoot m f
-IsFloorRoot-rest m f rest e h = record { at_most = omega arith; next_above = omega arith }
-
 -- ---- the root, rounded up
 
 exact : (m f : ℕ) → m ≤ f * f → f * f ≤ m → IsCeilRoot m f
@@ -107,6 +96,11 @@ ceil_roots_agree m c d hc hd =
 -- it is the only one
 pub ceil_root-unique : (m c : ℕ) → IsCeilRoot m c → c ≡ ceil_root m
 ceil_root-unique m c h = ceil_roots_agree m c (ceil_root m) h (ceil_root-is m)
+
+-- the root rounded up or down, and one more where something is left of m and it is to be rounded up
+pub rounded : (m f rest : ℕ) (up : Bool) → IsFloorRoot m f → f * f + rest ≡ m → f + bool_byte (up && ltb 0 rest) ≡ cond up (ceil_root m) (floor_root m)
+rounded m f rest true h e = ceil_root-unique m _ (ceil_root-from_rest m f rest h e)
+rounded m f rest false h e = simp add-zero (floor_root-unique m f h)
 
 -- a number whose square is not below m is not below the root
 pub ceil_root-le : (m c : ℕ) → m ≤ c * c → ceil_root m ≤ c

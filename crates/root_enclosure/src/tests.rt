@@ -23,11 +23,20 @@ fn known_roots(rt: HostRuntime) {
         if m < LIMIT {
             assert_eq!(rt; floor_root(m), floor, "floor root of {m}");
             assert_eq!(rt; ceil_root(m), ceil, "ceil root of {m}");
+            assert_eq!(rt; both_roots(m), (floor, ceil), "both roots of {m}");
+            assert_eq!(rt; root_rounded(m, false), floor, "root of {m}, rounded down");
+            assert_eq!(rt; root_rounded(m, true), ceil, "root of {m}, rounded up");
         }
     }
 }
 
-/// A root is between its neighbours, and no search was made for it.
+/// Whether all of the first 62 binary digits are 1, and their count is even.
+fn is_below_a_power_of_4(m: u128) -> bool {
+    let digits = 128 - m.leading_zeros();
+    digits >= 62 && digits % 2 == 0 && (m << m.leading_zeros()).leading_ones() >= 62
+}
+
+/// A root is between its neighbours, and no search was made for it, but just below a power of 4.
 fn check(rt: &impl Abort, m: u128) {
     if m < LIMIT {
         let floor = floor_root(m);
@@ -40,7 +49,7 @@ fn check(rt: &impl Abort, m: u128) {
             "ceil root of {m}"
         );
         assert!(rt;
-            guess == floor || guess == floor + 1,
+            guess == floor || guess == floor + 1 || guess == 0 && is_below_a_power_of_4(m),
             "estimate of the root of {m}"
         );
     }

@@ -4,3 +4,4 @@ mod SplitNodes
 mod Remarking
 mod EndingLemmas
 mod ListedLemmas
+mod KnownBounds

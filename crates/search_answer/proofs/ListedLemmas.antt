@@ -17,6 +17,7 @@ use Rattle.pool_core.specs.Job.{Job, job_root}
 use Rattle.pool_core.specs.State.{State, entry_square, squares_of, split_count}
 use Rattle.pool_core.specs.Sound.{AreTree, StopFits, IsFinished}
 use Rattle.pool_core.specs.Begun.{left_of}
+use Rattle.pool_core.specs.Logged.{bounded_node}
 use Rattle.pool_core.proofs.TreeKept.{total-squares}
 use Rattle.pool_core.proofs.CountsKept.{length-permutation, count_by-permutation}
 use Rattle.search_answer.specs.Ending.{open_for}
@@ -61,10 +62,11 @@ tree_most s tree =
     )
 
 -- few enough to be counted
-pub listed_few : (j : Job) (s : State) (best : Option (Pt × ℤ)) (ls : List Node) → IsFinished j s best → IsPermutation (s.nodes ++ map left_of s.waiting) ls → length ls < 2 ^ 40
+pub listed_few : (j : Job) (s : State) (best : Option (Pt × ℤ)) (ls : List Node) → IsFinished j s best → IsPermutation (map (bounded_node s.job.instance) s.nodes ++ map left_of s.waiting) ls → length ls < 2 ^ 40
 listed_few j s best ls h same =
     let counts = h.sound.consistent.counts in
-    let all : length ls ≡ length s.nodes + length s.waiting = length-permutation (s.nodes ++ map left_of s.waiting) ls same ∙ length-append s.nodes (map left_of s.waiting) ∙ ap (λ k. length s.nodes + k) (length-map s.waiting left_of) in
+    let ns = map (bounded_node s.job.instance) s.nodes in
+    let all : length ls ≡ length s.nodes + length s.waiting = length-permutation (ns ++ map left_of s.waiting) ls same ∙ length-append ns (map left_of s.waiting) ∙ ap (λ k. k + length (map left_of s.waiting)) (length-map s.nodes (bounded_node s.job.instance)) ∙ ap (λ k. length s.nodes + k) (length-map s.waiting left_of) in
     omega (arith, all, tree_most s h.sound.consistent.tree, counts.leased, counts.budget, h.sound.job.job.budget)
 
 open_most : (s : State) (word : Word) (stop : Option Stop) → s.job.pool ≤ 1000000 → StopFits s stop → open_for word stop ≤ 1000000

@@ -1,10 +1,9 @@
 -- A list of nodes, some of which have their finished marks.
-use Rattle.std.proofs.Common.{◌≡◌, ℕ, zero, suc, ◌+◌, ◌<◌, ℤ, false, List, [], ◌∷◌, ◌++◌, map, length, get_or, set, take, drop, Option, refl, sym, ap, ◌∙◌, subst, min, ◌^◌, add-one, arith}
-use Rattle.std.proofs.lemmas.Bool.{cond-false}
+use Rattle.std.proofs.Common.{◌≡◌, ℕ, zero, suc, ◌+◌, ◌<◌, ℤ, List, [], ◌∷◌, ◌++◌, map, length, get_or, set, take, drop, Option, refl, sym, ap, ◌∙◌, subst, min, ◌^◌, add-one, arith}
 use Rattle.std.proofs.lemmas.List.{get_or_read, take_more, map-append, length-map, length-take}
 use Rattle.std.proofs.lemmas.List.Elements.{All-nil, All-cons, All-append}
 use Rattle.siting_definitions.specs.declared.Mark.{Mark}
-use Rattle.siting_definitions.specs.Marks.{is_split, leaf_mark, Tally, tally_of}
+use Rattle.siting_definitions.specs.Marks.{Tally, tally_of}
 use Rattle.siting_definitions.specs.Answer.{IsMark}
 use Rattle.discard_log.specs.Nodes.{mark_of}
 use Rattle.std.specs.Prelude.{All}
@@ -14,14 +13,13 @@ use Rattle.discard_log.proofs.NodeLemmas.{set-mark}
 use Rattle.answer_model.specs.Tally.{AreSmall, tally_sum}
 use Rattle.answer_model.proofs.TallyLemmas.{tally_of-append, tally_of-small}
 use Rattle.pool_core.specs.Job.{Job}
-use Rattle.search_answer.specs.Ending.{finished_mark, finished_node}
+use Rattle.search_answer.specs.Ending.{IsKnownNode, finished_mark, finished_node}
 
 -- a leaf with its finished mark
-pub remarked_leaf : (j : Job) (u : Option ℤ) (ns : List Node) (i : ℕ) (n : Node) (m : Mark) (d : Node) → i < length ns → n ≡ get_or ns i n → is_split n.mark ≡ false → m ≡ leaf_mark j.instance j.gap u n.square → with_mark ns i m ≡ set ns i (finished_node j u (get_or ns i d))
-remarked_leaf j u ns i n m d within at leaf made =
-    let mark : m ≡ finished_mark j u n = made ∙ sym (cond-false (is_split n.mark) n.mark (leaf_mark j.instance j.gap u n.square) leaf) in
+pub remarked_leaf : (j : Job) (u : Option ℤ) (ns : List Node) (i : ℕ) (n : Node) (m : Mark) (d : Node) → i < length ns → n ≡ get_or ns i n → m ≡ finished_mark j u n → with_mark ns i m ≡ set ns i (finished_node j u (get_or ns i d))
+remarked_leaf j u ns i n m d within at made =
     sym (set-mark ns i n m within at)
-    ∙ ap (λ (k : Mark). set ns i (record { square = n.square; mark = k })) mark
+    ∙ ap (λ (k : Mark). set ns i (record { square = n.square; mark = k })) made
     ∙ ap (λ (k : Node). set ns i (finished_node j u k)) (get_or_read ns i n within at d)
 
 finished_next : {X : Type 0} (f : X → X) (xs : List X) (i : ℕ) (d : X) → i < length xs → set (map f (take i xs) ++ drop i xs) i (f (get_or (map f (take i xs) ++ drop i xs) i d)) ≡ map f (take (suc i) xs) ++ drop (suc i) xs
@@ -43,6 +41,12 @@ at_next : {X : Type 0} (f : X → X) (xs : List X) (i : ℕ) (d : X) → i < len
 at_next f [] i d h = absurd (omega arith)
 at_next f (x ∷ xs) zero d h = refl
 at_next f (x ∷ xs) (suc i) d h = at_next f xs i d (omega arith)
+
+-- the next node tells what its finished mark needs
+pub known_next : (j : Job) (u : Option ℤ) (ns : List Node) (i : ℕ) (now : List Node) (t : Tally) (d : Node) → i < length ns → All (IsKnownNode j.instance) ns → IsUnderway j u ns i now t → IsKnownNode j.instance (get_or now i d)
+known_next j u ns i now t d h known under =
+    let here : get_or now i d ≡ get_or ns i d = ap (λ ks. get_or ks i d) under.nodes ∙ at_next (finished_node j u) ns i d h in
+    subst (IsKnownNode j.instance) (sym here) (known i d h)
 
 -- the marks of the first i nodes
 abbrev marks_to : Job → Option ℤ → List Node → ℕ → List Mark

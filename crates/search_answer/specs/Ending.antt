@@ -1,16 +1,21 @@
 -- The answer that a search ends with.
-use Rattle.std.specs.Prelude.{◌≡◌, ℕ, ◌+◌, ◌≤◌, ◌==◌, ℤ, true, if◌then◌else◌, not, is_some, List}
-use Rattle.std.specs.Prelude.{map, filter, length, Option, Some, None, option_map, IsPermutation}
+use Rattle.std.specs.Prelude.{◌≡◌, ℕ, ◌+◌, ◌≤◌, ◌==◌, ℤ, true, false, if◌then◌else◌, not, is_some}
+use Rattle.std.specs.Prelude.{List, map, filter, length, Option, Some, None, option_map}
+use Rattle.std.specs.Prelude.{IsPermutation, ⊤}
 use Rattle.siting_definitions.specs.declared.Word.{Word}
 use Rattle.siting_definitions.specs.declared.Word.TheVariants.{Solved, PoolFull, Budget, Floor}
 use Rattle.siting_definitions.specs.declared.Word.TheVariants.{Empty}
 use Rattle.siting_definitions.specs.Point.{Pt}
 use Rattle.siting_definitions.specs.Instance.{Instance}
-use Rattle.siting_definitions.specs.Bounds.{lower_of, upper_of}
+use Rattle.siting_definitions.specs.Square.{Square}
+use Rattle.siting_definitions.specs.Bounds.{fine_of, lower_of, upper_of}
+use Rattle.siting_definitions.specs.Excluded.{is_excluded}
 use Rattle.siting_definitions.specs.Tree.{Tree, preorder}
 use Rattle.siting_definitions.specs.Marks.{Tally, tally_of, leaf_mark, is_split, AreMarks}
 use Rattle.siting_definitions.specs.Answer.{Best, Head, Answer, IsValid, is_stopped}
 use Rattle.siting_definitions.specs.declared.Mark.{Mark}
+use Rattle.siting_definitions.specs.declared.Mark.TheVariants.{Split, Shut, Bounded, Left}
+use Rattle.siting_definitions.specs.declared.Mark.TheVariants.{Floor as FloorMark}
 use Rattle.discard_log.specs.declared.node.Node.{Node}
 use Rattle.discard_log.specs.Nodes.{mark_of, tree_square}
 use Rattle.pool_core.specs.declared.stop.Stop.{Stop}
@@ -49,6 +54,19 @@ finished_mark j u n = if is_split n.mark then n.mark else leaf_mark j.instance j
 -- a node with its finished mark
 abbrev pub finished_node : Job → Option ℤ → Node → Node
 finished_node j u n = record { square = n.square; mark = finished_mark j u n }
+
+-- what a mark tells of its square: one that is marked shut is excluded, and one that was settled by
+-- a number isn't excluded, and has its fine bound for that number
+abbrev pub IsKnownMark : Instance → Square → Mark → Type 0
+IsKnownMark i s (Split seen) = ⊤
+IsKnownMark i s Shut = is_excluded i s ≡ true
+IsKnownMark i s (Bounded b) = (is_excluded i s ≡ false) × (b ≡ fine_of i s)
+IsKnownMark i s (FloorMark b) = (is_excluded i s ≡ false) × (b ≡ fine_of i s)
+IsKnownMark i s (Left b) = ⊤
+
+-- a node's mark tells what its finished mark needs, but where the square was left open
+abbrev pub IsKnownNode : Instance → Node → Type 0
+IsKnownNode i n = IsKnownMark i n.square n.mark
 
 -- the best site with its two costs
 abbrev pub best_by : Instance → Option (Pt × ℤ) → Option Best

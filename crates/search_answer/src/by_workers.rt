@@ -6,9 +6,9 @@ ghost use Rattle.siting_definitions.specs.Marks as marks;
 ghost use Rattle.discard_log.specs.Nodes.{mark_of};
 ghost use Rattle.pool_core.specs.Seats.{IsKeptBy};
 ghost use Rattle.pool_core.specs.Sound.{IsFinished};
-ghost use Rattle.search_answer.specs.Ending.{Finishes, answer_of, finished_node};
+ghost use Rattle.search_answer.specs.Ending.{Finishes, IsKnownNode, answer_of, finished_node};
 
-use crate::ending::{head_of, mark_for};
+use crate::ending::{finished_mark, head_of};
 use answer_model::{Head, Tally, is_split};
 use discard_log::{Node, NodeList};
 use pool_core::{Closed, Job, cost_in};
@@ -19,9 +19,9 @@ use std::thread::Threads;
 const MOST_PARTS: usize = 64;
 
 /// The answer that `finish` gives, where so many workers mark the leaves: the fine bound of each
-/// leaf takes most of the time. The nodes are cut into four parts a worker, at most 64 in all,
-/// since parts of one length don't take the same time. It takes no memory. Where no thread can be
-/// made the parts are marked one after another.
+/// square that was left open takes most of the time. The nodes are cut into four parts a worker, at
+/// most 64 in all, since parts of one length don't take the same time. It takes no memory. Where no
+/// thread can be made the parts are marked one after another.
 pub fn finish_by_workers<R: Threads + Sync>(
     rt: &R,
     job: Job,
@@ -54,7 +54,8 @@ fn mark_nodes<R: Threads + Sync>(
     parts: usize,
     nodes: NodeList,
 ) -> NodeList
-    requires { 0 < parts }
+    requires parts { 0 < parts }
+    requires known { All (IsKnownNode job.now.instance) nodes }
     ensures { result ≡ map (finished_node job.now least) nodes }
 {
     let mut nodes = nodes.into_vec();
@@ -70,19 +71,23 @@ fn mark_parts<R: Threads + Sync>(
     parts: usize,
     nodes: &mut [Node],
 )
-    requires { 0 < parts }
+    requires parts { 0 < parts }
+    requires known { All (IsKnownNode job.now.instance) nodes.old }
     ensures { nodes.new ≡ map (finished_node job.now least) nodes.old }
 {
-    thread::for_each_mut(rt, nodes, parts, &|_, node| mark_node(job, least, node));
+    let mark = |_: usize, node: &mut Node|
+        requires { IsKnownNode job.now.instance node.now }
+        ensures { node.exit.now ≡ finished_node job.entry.now least node.entry.now }
+    { mark_node(job, least, node) };
+    thread::for_each_mut(rt, nodes, parts, &mark);
 }
 
 /// Gives a node its finished mark, for the least upper cost.
 fn mark_node(job: &Job, least: Option<i64>, node: &mut Node)
+    requires { IsKnownNode job.now.instance node.old }
     ensures { node.new ≡ finished_node job.now least node.old }
 {
-    if !is_split(node.mark) {
-        node.mark = mark_for(job, least, node.square);
-    }
+    node.mark = finished_mark(job, least, node.square, node.mark);
 }
 
 /// The tally of the marks of nodes.

@@ -1,6 +1,6 @@
 //! The answer that a search ends with.
 
-ghost use Rattle.std.specs.Prelude.{◌≡◌, ℕ, ◌<◌, ◌≤◌, ◌^◌, map, length, is_some, All, false};
+ghost use Rattle.std.specs.Prelude.{◌≡◌, ℕ, ◌<◌, ◌≤◌, ◌^◌, map, length, is_some, All};
 ghost use Rattle.std.specs.Prelude.{slice_set, slice_index_or};
 ghost use Rattle.siting_definitions.specs.Answer.{IsHead, IsMark, IsWorkedBy};
 ghost use Rattle.siting_definitions.specs.Marks as marks;
@@ -9,10 +9,11 @@ ghost use Rattle.discard_log.specs.Nodes.{mark_of};
 ghost use Rattle.pool_core.specs.Seats.{IsKeptBy};
 ghost use Rattle.pool_core.specs.Sound.{IsFinished};
 ghost use Rattle.answer_model.specs.Head.{best_of};
-ghost use Rattle.search_answer.specs.Ending.{Finishes, answer_of, best_by, finished_node, head_by};
+ghost use Rattle.search_answer.specs.Ending.{Finishes, IsKnownMark, IsKnownNode, answer_of};
+ghost use Rattle.search_answer.specs.Ending.{best_by, finished_node, head_by};
 ghost use Rattle.search_answer.specs.Ending as endings;
 
-use answer_model::{Head, Tally, Word, is_split, leaf_mark};
+use answer_model::{Head, Tally, Word, is_split, leaf_mark, mark_by_bound};
 use discard_log::{Mark, NodeList};
 use dyadic_square::Square;
 use objectives::cost_of;
@@ -39,6 +40,7 @@ pub fn finish(job: Job, closed: Closed) -> (Head, NodeList)
 /// Gives each leaf its finished mark, for the least upper cost, and counts the marks.
 fn finish_marks(job: &Job, least: Option<i64>, nodes: &mut NodeList) -> Tally
     requires few { length nodes.old < 2 ^ 40 }
+    requires known { All (IsKnownNode job.now.instance) nodes.old }
     ensures nodes { nodes.new ≡ map (finished_node job.now least) nodes.old }
     ensures ranges { All IsMark (map mark_of nodes.new) }
     ensures tally { result ≡ marks.tally_of (map mark_of nodes.new) }
@@ -54,6 +56,8 @@ fn finish_marks(job: &Job, least: Option<i64>, nodes: &mut NodeList) -> Tally
 /// Gives the node at index `i` its finished mark, for the least upper cost.
 fn finish_node(job: &Job, least: Option<i64>, nodes: &mut NodeList, i: usize) -> Mark
     requires index { i < length nodes.old }
+    requires known { (d : nodes_of.Node)
+        → IsKnownNode job.now.instance (slice_index_or nodes.old i d) }
     ensures nodes { (d : nodes_of.Node)
         → nodes.new
         ≡ slice_set nodes.old i
@@ -66,18 +70,27 @@ fn finish_node(job: &Job, least: Option<i64>, nodes: &mut NodeList, i: usize) ->
     if is_split(node.mark) {
         return node.mark;
     }
-    let mark = mark_for(job, least, node.square);
+    let mark = finished_mark(job, least, node.square, node.mark);
     nodes.remark(i, mark);
     mark
 }
 
-/// The finished mark of a leaf of the job's instance, for the least upper cost.
-pub(crate) fn mark_for(job: &Job, least: Option<i64>, square: Square) -> Mark
-    ensures value { result ≡ marks.leaf_mark job.now.instance job.now.gap least square }
-    ensures leaf { marks.is_split result ≡ false }
+/// The finished mark of a square with this mark, for the least upper cost. Its bound is taken only
+/// where it was left open.
+pub(crate) fn finished_mark(job: &Job, least: Option<i64>, square: Square, mark: Mark) -> Mark
+    requires { IsKnownMark job.now.instance square mark }
+    ensures value { result
+        ≡ endings.finished_mark job.now least (record { square = square; mark = mark }) }
+    ensures split { marks.is_split result ≡ marks.is_split mark }
     ensures range { IsMark result }
 {
-    leaf_mark(&job.instance, job.gap, least, square)
+    match mark {
+        Mark::Split(_) => mark,
+        Mark::Shut => mark,
+        Mark::Bounded(bound) => mark_by_bound(job.gap, least, square.level, bound),
+        Mark::Floor(bound) => mark_by_bound(job.gap, least, square.level, bound),
+        Mark::Left(_) => leaf_mark(&job.instance, job.gap, least, square),
+    }
 }
 
 /// The head of the answer to a job, by the best site, the tally of the marks, the stop and the

@@ -6,3 +6,4 @@ mod IncumbentSteps
 mod TurnSteps
 mod SeatSteps
 mod FirstAndLast
+pub mod LeasedFits

@@ -1,6 +1,6 @@
 -- Taking and giving the turn keeps the rule.
 use Rattle.std.proofs.Common.{◌≡◌, ℕ, ◌+◌, ◌<◌, ◌≤◌, ◌≢◌, ◌⊎◌, inl, inr, ⊎_elim, ℤ, Bool, true, false, cond, ◌||◌, List, [], ◌∷◌, length, get_or, set, Option, None, Some, refl, sym, ap, ◌∙◌, subst, arith, length-set, get_or-set_other, get_or-set_same}
-use Rattle.std.specs.Prelude.{⊤, MatchOption, Contains, sum_by, is_some, option_to_list}
+use Rattle.std.specs.Prelude.{⊤, MatchOption, All, Contains, sum_by, is_some, option_to_list}
 use Rattle.std.specs.Option.{ForSome}
 use Rattle.std.specs.declared.snapshot.Snapshot.{Snapshot}
 use Rattle.std.proofs.lemmas.Bool.{false≢true}
@@ -26,7 +26,7 @@ use Rattle.pool_core.specs.State.{State, open_count}
 use Rattle.pool_core.specs.Verdict.{finding_of, is_part}
 use Rattle.pool_core.specs.Machine.{Leases, Halts, Returns, IsSeen, first_stop, is_kept}
 use Rattle.pool_core.specs.PoolAnswers.{LeaseAnswers}
-use Rattle.pool_core.specs.Sound.{IsSound}
+use Rattle.pool_core.specs.Sound.{IsSound, EntryFits}
 use Rattle.pool_core.proofs.Entries.{same_entry, entry_decides}
 use Rattle.shared_pool.specs.declared.view.View.{View}
 use Rattle.shared_pool.specs.declared.view.Role.{Role}
@@ -133,6 +133,8 @@ takes_turn about slots id m desk s o wide at fits =
           seat_is = refl;
           job = o.job ∙ sym (ap (λ (first : State). first.job) (known about s o id m.0 at desk).first_is);
           leased = leased about s o id m.0 at desk;
+          waiting = subst (λ (first : State). All (EntryFits first.job.instance) o.shown.waiting) (sym (known about s o id m.0 at desk).first_is)
+              (subst (λ (j : Job). All (EntryFits j.instance) o.shown.waiting) o.job (reached-sound about.value o.shown (incumbent_in s) o.opened o.reached).waiting);
         }),
         λ other. absurd (other free),
       ),
@@ -329,7 +331,8 @@ lease_gives first v Done pool no_lease h =
 lease_gives first v Idle pool no_lease h = idles first v Idle pool no_lease refl h.3 (λ end. absurd (false≢true end))
 lease_gives first v (Leased e) pool no_lease h = leases first v e pool no_lease h
 
-abbrev first_held : State → List (ℕ × State) → State
+-- the pool that a seat holds first
+abbrev pub first_held : State → List (ℕ × State) → State
 first_held pool [] = pool
 first_held pool (x ∷ xs) = x.1
 

@@ -8,7 +8,7 @@ use Rattle.pool_core.specs.declared.lease.LeaseAnswer.{LeaseAnswer}
 use Rattle.pool_core.specs.declared.lease.LeaseAnswer.TheVariants as answers
 use Rattle.pool_core.specs.declared.give_back.Given.{Given}
 use Rattle.pool_core.specs.declared.verdict.Finding.{Finding}
-use Rattle.pool_core.specs.Verdict.{finding_of, is_part}
+use Rattle.pool_core.specs.Verdict.{bounds_of, fine_in, finding_of, is_part}
 use Rattle.pool_core.specs.Machine.{Returns}
 use Rattle.pool_core.specs.PoolAnswers.{LeaseAnswers, given_of}
 use Rattle.shared_pool.specs.declared.view.View.{View}
@@ -53,6 +53,11 @@ TriesReturn (returning.Taken given) before after = IsGivenBack given before afte
 -- the finding is the one on the desk's lease, for the table's job and the number that was seen
 abbrev pub IsFound : View → Option ℤ → Finding → Type 0
 IsFound v seen finding = ForSome v.lease (λ lease. finding ≡ finding_of v.first.job lease seen)
+
+-- the fine bound is the one of the square of the desk's lease, for the table's job: a raised bound
+-- is taken for it, and there is none where the square is excluded
+abbrev pub IsFineOf : View → Option ℤ → Type 0
+IsFineOf v fine = ForSome v.lease (λ lease. fine ≡ fine_in (bounds_of v.first.job lease))
 
 -- where the finding is to split the square of the desk's lease, and the square has a centre site,
 -- the number that was seen is at most the upper cost of that site

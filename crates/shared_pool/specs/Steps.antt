@@ -1,5 +1,5 @@
 -- What each step on the table tells the desk that makes it.
-use Rattle.std.specs.Prelude.{◌≡◌, ◌≢◌, ℕ, ℤ, false, [], ◌∷◌, Contains, Option, MatchOption, ⊤}
+use Rattle.std.specs.Prelude.{◌≡◌, ◌≢◌, ℕ, ℤ, false, [], ◌∷◌, All, Contains, Option, MatchOption, ⊤}
 use Rattle.std.specs.Option.{ForSome}
 use Rattle.atomic_table.specs.Table.{Me, Step}
 use Rattle.incumbent_word.specs.Word.{number_in}
@@ -12,6 +12,7 @@ use Rattle.objectives.specs.Limits.{IsCost}
 use Rattle.pool_core.specs.declared.lease.LeaseAnswer.{LeaseAnswer}
 use Rattle.pool_core.specs.Job.{IsOffer, start_cost}
 use Rattle.pool_core.specs.State.{State}
+use Rattle.pool_core.specs.Sound.{EntryFits}
 use Rattle.shared_pool.specs.declared.view.View.{View}
 use Rattle.shared_pool.specs.declared.view.Role.{Role}
 use Rattle.shared_pool.specs.Views.{view_after_look, view_after_offer, view_after_loss}
@@ -53,12 +54,14 @@ told_by_offer site upper step m found n =
     IsIncumbentAfter m.0 (number_in found)
     × (n ≡ (view_after_offer m.0 (number_in found) site upper, m.1))
 
--- the turn was free, and the seat holds the pool, of which the desk's lease is a leased entry
+-- the turn was free, and the seat holds the pool, of which the desk's lease is a leased entry, and
+-- in which the bounds of the squares that wait are right
 pub record Wins (m : Seat) (n : Seat) : Type 0 where
   pub pool : State
   pub seat_is : n ≡ (view_after_win m.0 pool, (0, pool) ∷ m.1)
   pub job : pool.job ≡ m.0.first.job
   pub leased : ForSome m.0.lease (Contains pool.leased)
+  pub waiting : All (EntryFits m.0.first.job.instance) pool.waiting
 
 abbrev pub told_by_take : Telling
 told_by_take step m found n = (found ≡ 0 → Wins m n) × (found ≢ 0 → n ≡ (view_after_loss m.0, m.1))

@@ -2,7 +2,9 @@
 
 ghost use Rattle.std.specs.Prelude.{◌≡◌, ◌≢◌, true, false, [], ◌∷◌, None};
 ghost use Rattle.pool_core.specs.State as states;
+ghost use Rattle.std.specs.Option.{ForSome};
 ghost use Rattle.pool_core.specs.PoolAnswers.{LeaseAnswers};
+ghost use Rattle.pool_core.specs.Sound.{EntryFits};
 ghost use Rattle.shared_pool.specs.declared.view.Role.TheVariants as roles;
 ghost use Rattle.shared_pool.specs.Views.{view_after_lease, view_after_loss};
 ghost use Rattle.shared_pool.specs.Steps.{IsAtRest, Wins};
@@ -34,12 +36,15 @@ pub enum TryLease {
 }
 
 impl SharedPool {
-    /// Leases a square for a desk that has none, where the turn is free. It takes no memory, and
-    /// waits for nobody.
+    /// Leases a square for a desk that has none, where the turn is free. The bound of the square is
+    /// at most its fine bound; a raised one is equal to it, and its square isn't excluded. It takes
+    /// no memory, and waits for nobody.
     pub fn try_lease(&self, desk: &mut Desk) -> TryLease
         requires desk { IsDeskOf self.now desk.old }
         requires lease { (view desk.old).lease ≡ None }
         ensures answer { TriesLease result (view desk.old) (view desk.new) }
+        ensures fits { ForSome (view desk.new).lease
+            (EntryFits (view desk.old).first.job.instance) }
         ensures desk { IsDeskOf self.now desk.new }
     {
         if !self.take_turn(&mut desk.seat) {

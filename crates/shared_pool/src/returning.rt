@@ -2,10 +2,10 @@
 
 ghost use Rattle.std.specs.Prelude.{◌≡◌, true, [], ◌∷◌, Contains, IsSome};
 ghost use Rattle.pool_core.specs.State as states;
-ghost use Rattle.pool_core.specs.Verdict.{finding_of};
+ghost use Rattle.pool_core.specs.Verdict.{bounds_of, fine_in, finding_of};
 ghost use Rattle.pool_core.specs.Machine.{Returns};
 ghost use Rattle.pool_core.specs.PoolAnswers.{given_of};
-ghost use Rattle.shared_pool.specs.Calls.{IsCentreSeen, IsFound, TriesReturn};
+ghost use Rattle.shared_pool.specs.Calls.{IsCentreSeen, IsFineOf, IsFound, TriesReturn};
 ghost use Rattle.shared_pool.specs.Desks.{IsDeskOf, view};
 
 use crate::desk::Desk;
@@ -36,6 +36,7 @@ impl SharedPool {
         requires fresh { (view desk.old).fresh ≡ true }
         requires seen { verdict.seen ≡ (view desk.old).seen }
         requires finding { IsFound (view desk.old) verdict.seen verdict.finding }
+        requires fine { IsFineOf (view desk.old) verdict.fine }
         requires centre { IsCentreSeen (view desk.old) verdict.seen verdict.finding }
         ensures answer { TriesReturn result (view desk.old) (view desk.new) }
         ensures desk { IsDeskOf self.now desk.new }
@@ -61,7 +62,8 @@ fn give_back_to(words: &Words, seat: &mut Seat<Pool, View>, lease: Lease, verdic
     requires seat { seat.old.table_id ≡ words.now.table_id }
     requires pool { (pool : states.State) × (seat.old.me.1 ≡ (0, pool) ∷ [])
         × Contains pool.leased lease
-        × (verdict.finding ≡ finding_of pool.job lease verdict.seen) }
+        × (verdict.finding ≡ finding_of pool.job lease verdict.seen)
+        × (verdict.fine ≡ fine_in (bounds_of pool.job lease)) }
     ensures returned { (before : states.State) × (after : states.State)
         × (seat.old.me.1 ≡ (0, before) ∷ []) × (seat.new.me.1 ≡ (0, after) ∷ [])
         × Returns lease verdict.seen verdict.finding before after

@@ -1,25 +1,26 @@
 -- The starting square, and that it holds each point that a permitted polygon holds.
-use Rattle.std.proofs.Common.{◌≡◌, ℕ, ◌+◌, ◌-◌, ◌*◌, ◌/◌, ◌^◌, ◌<◌, ◌≤◌, max, List, [], ◌∷◌, length, map, All, Bool, true, false, ◌||◌, ℤ, pos, ◌+ℤ◌, ◌-ℤ◌, ◌*ℤ◌, ◌≤ℤ◌, ◌<ℤ◌, unsigned_abs, refl, sym, ap, ◌∙◌, subst, ◌⊎◌, inl, inr, ⊎_elim, arith, length-append, lit≤}
+use Rattle.std.proofs.Common.{◌≡◌, ℕ, ◌+◌, ◌-◌, ◌*◌, ◌/◌, ◌^◌, ◌<◌, ◌≤◌, max, List, [], ◌∷◌, length, map, All, Bool, true, false, IsTrue, ◌||◌, ℤ, pos, ◌+ℤ◌, ◌-ℤ◌, ◌*ℤ◌, ◌≤ℤ◌, ◌<ℤ◌, unsigned_abs, refl, sym, ap, ◌∙◌, subst, ◌⊎◌, inl, inr, ⊎_elim, arith, length-append, lit≤}
 use Rattle.std.specs.List.{list_any}
 use Rattle.std.specs.Float.Ieee.{size}
 use Rattle.std.specs.Int.Count.{count_leading_zeros}
 use Rattle.std.proofs.lemmas.Bool.{cases_lt, false≢true, and_parts, and_from}
 use Rattle.std.proofs.lemmas.Nat.{leading_length, pow-add}
 use Rattle.std.proofs.lemmas.List.{get_or_append_left, get_or-append_right}
-use Rattle.std.proofs.lemmas.List.Elements.{All-head, All-tail}
+use Rattle.std.proofs.lemmas.List.Elements.{All-head, All-tail, All-from_get_or}
 use Rattle.std.proofs.Math.Pow.{pow_mono}
 use borrow.Author.Differences.{ints, same_in}
 use lib.Ieee.Digits.{size-lt, size-le}
 use Rattle.siting_definitions.specs.Integer.{least, greatest}
-use Rattle.siting_definitions.specs.Point.{Place, Point}
+use Rattle.siting_definitions.specs.Point.{Place, Point, grid, point_of}
 use Rattle.siting_definitions.specs.Polygon.{vertex, origin, covers}
-use Rattle.siting_definitions.specs.Square.{Extent, IsSquare, spans, holds}
+use Rattle.siting_definitions.specs.Square.{Square, Extent, IsSquare, spans, holds, holds_closed}
 use Rattle.siting_definitions.specs.Instance.{Instance, IsInstance, IsPolygon}
 use Rattle.siting_definitions.specs.Excluded.{box_of}
 use Rattle.siting_definitions.specs.Permitted.{permits}
 use Rattle.siting_definitions.specs.Sites.{vertices, span, root_of}
 use Rattle.siting_definitions.proofs.Integers.{mul_comm_ℤ, mul_assoc_ℤ, mul_le_ℤ, scale_le_ℤ, mul_lt_ℤ, le_trans_ℤ, le_lt_trans_ℤ, le-int_le, lt-int_lt}
 use Rattle.convex_region.proofs.Boxes.{x_of, y_of}
+use Rattle.dyadic_square.proofs.Tiling.{holds_closed_from_holds}
 use Rattle.convex_region.proofs.BoxLemmas.{least-at, greatest-at, lies_in_box}
 use Rattle.site_model.specs.Box.{IsBoxWithin, square_of_box}
 use Rattle.site_model.proofs.Extremes.{least_from_below, greatest_from_above}
@@ -199,6 +200,30 @@ axis low high v q n one short above below =
     let on_grid = below_in_grid_units q (2 ^ n) low v strict in
     and_from _ _ (le-int_le _ _ (in_grid_units q low v above))
     (lt-int_lt _ _ (subst (λ m. (pos 65536 *ℤ v) <ℤ (pos q *ℤ (pos 65536 *ℤ low +ℤ pos m))) (sym (side_is n)) on_grid))
+
+-- the square over the box of places holds each of them
+square_holds : (vs : List Place) (k : ℕ) → k < length vs → holds (square_of_box (box_of vs)) (point_of (grid (vertex vs k))) ≡ true
+unfolding box_of holds
+square_holds vs k within =
+    let xs = map x_of vs in
+    let ys = map y_of vs in
+    let v = vertex vs k in
+    let width = unsigned_abs (pos 65536 *ℤ greatest xs -ℤ pos 65536 *ℤ least xs) / 65536 in
+    let height = unsigned_abs (pos 65536 *ℤ greatest ys -ℤ pos 65536 *ℤ least ys) / 65536 in
+    let digits = size-lt (max width height) in
+    let wide : unsigned_abs (greatest xs -ℤ least xs) < 2 ^ size (max width height) = omega (arith, digits, span_scaled (least xs) (greatest xs)) in
+    let high : unsigned_abs (greatest ys -ℤ least ys) < 2 ^ size (max width height) = omega (arith, digits, span_scaled (least ys) (greatest ys)) in
+    and_from _ _
+    (axis (least xs) (greatest xs) (pos 65536 *ℤ v.x) 65536 (size (max width height)) (lit≤ tt) wide (scale_le_ℤ 65536 _ _ (least-at x_of vs k within)) (scale_le_ℤ 65536 _ _ (greatest-at x_of vs k within)))
+    (axis (least ys) (greatest ys) (pos 65536 *ℤ v.y) 65536 (size (max width height)) (lit≤ tt) high (scale_le_ℤ 65536 _ _ (least-at y_of vs k within)) (scale_le_ℤ 65536 _ _ (greatest-at y_of vs k within)))
+
+-- and so does the closed square
+pub all_held : (vs : List Place) (s : Square) → s ≡ square_of_box (box_of vs) → All (λ v. IsTrue (holds_closed s (point_of (grid v)))) vs
+all_held vs s over =
+    All-from_get_or (λ v. IsTrue (holds_closed s (point_of (grid v)))) vs origin
+    (λ k within.
+    let p = point_of (grid (vertex vs k)) in
+    holds_closed_from_holds s p (ap (λ t. holds t p) over ∙ square_holds vs k within))
 
 -- the starting square holds each permitted point
 pub root_holds : (i : Instance) (p : Point) → IsInstance i → permits i p ≡ true → holds (root_of i) p ≡ true

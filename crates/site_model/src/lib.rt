@@ -12,5 +12,6 @@ mod tests;
 pub use demand::DemandPt;
 pub use instance::Instance;
 pub use laws::{the_root_has_the_least_side, the_root_holds_every_permitted_point};
+pub use root::square_round;
 pub use site::Site;
 pub use siting_definitions::Kind;

@@ -1,7 +1,9 @@
 //! The starting square.
 
-ghost use Rattle.std.specs.Prelude.{◌≡◌, ◌≤◌, length, All};
+ghost use Rattle.std.specs.Prelude.{◌≡◌, ◌≤◌, length, All, IsTrue};
 ghost use Rattle.std.specs.Float.Ieee.{size};
+ghost use Rattle.siting_definitions.specs.Point.{Place, grid, point_of};
+ghost use Rattle.siting_definitions.specs.Square.{holds_closed};
 ghost use Rattle.siting_definitions.specs.Instance.{Instance, IsPolygon};
 ghost use Rattle.siting_definitions.specs.Excluded as excluded;
 ghost use Rattle.siting_definitions.specs.Sites.{root_of, vertices};
@@ -19,6 +21,15 @@ pub(crate) fn root_over(permitted: &[Polygon]) -> Square
     ensures polygons { All IsPolygon permitted.now }
 {
     square_over(box_of_all(permitted))
+}
+
+/// The square over a polygon's bounding box: its corner is the box's, and its side the least power
+/// of two of lengths above the box's sides. It holds each vertex.
+pub fn square_round(polygon: &Polygon) -> Square
+    ensures value { result ≡ square_of_box (excluded.box_of polygon.now) }
+    ensures vertices { All (λ v. IsTrue (holds_closed result (point_of (grid v)))) polygon.now }
+{
+    square_over(polygon.bounds())
 }
 
 /// The square whose corner is the box's, with the least side of a power of two of lengths above the

@@ -1,18 +1,20 @@
 -- The search by one worker: what holds between two leases.
 use Rattle.std.proofs.Common.{◌≡◌, ℕ, ◌+◌, ℤ, ◌≤ℤ◌, ◌<ℤ◌, Bool, true, false, cond, [], ◌∷◌, Option, None, Some, length, refl, sym, ap, ◌∙◌, subst, ◌⊎◌, inl, inr, ⊎_elim, arith}
-use Rattle.std.specs.Prelude.{⊤, MatchOption, option_map, int_lt}
-use Rattle.std.proofs.lemmas.Bool.{cases_Bool}
+use Rattle.std.specs.Prelude.{⊤, MatchOption, option_map, ◌&&◌, nat_lt, int_lt}
+use Rattle.std.proofs.lemmas.Bool.{cases_Bool, cond_both, and_parts, ltb-true}
 use Rattle.std.specs.List.{Contains}
 use Rattle.std.proofs.lemmas.Int.{clamps}
 use Rattle.std.proofs.lemmas.List.{nil_from_length}
 use Rattle.std.proofs.lemmas.List.Sorted.{length_permutation, Contains-permutation}
 use borrow.Author.Differences.{ints}
-use Rattle.siting_definitions.specs.Point.{Pt}
+use Rattle.siting_definitions.specs.Point.{Pt, point_of}
 use Rattle.siting_definitions.specs.Instance.{Instance}
-use Rattle.siting_definitions.specs.Square.{Square}
-use Rattle.siting_definitions.specs.Sites.{centre_cost, centre_site_of}
+use Rattle.siting_definitions.specs.Square.{Square, IsSquare, centre_of}
+use Rattle.siting_definitions.specs.Sites.{has_centre, centre_cost, centre_site_of}
 use Rattle.siting_definitions.specs.Bounds.{upper_of}
+use Rattle.siting_definitions.specs.Permitted.{permits}
 use Rattle.siting_definitions.specs.Marks.{IsAtMost, IsNoneOrAtLeast, lesser}
+use Rattle.candidate_sites.proofs.CentreLemmas.{IsSite-centre}
 use Rattle.bound_heap.specs.declared.entry.Entry.{Entry}
 use Rattle.pool_core.specs.declared.stop.Stop.{Stop}
 use Rattle.pool_core.specs.declared.stop.Stop.TheVariants.{PoolFull, Budget}
@@ -20,10 +22,11 @@ use Rattle.pool_core.specs.Job.{Job, IsJob, IsOffer, cost_in}
 use Rattle.pool_core.specs.Verdict.{finding_of}
 use Rattle.pool_core.specs.State.{State, open_count}
 use Rattle.pool_core.specs.Machine.{Leases, Halts, Returns, MayReturn, IsSeen, is_kept, first_stop}
-use Rattle.pool_core.specs.Sound.{IsSound, IsPoolOf, IsFinished}
+use Rattle.pool_core.specs.Sound.{EntryFits, IsSound, IsPoolOf, IsFinished}
 use Rattle.pool_core.proofs.SoundSteps.{sound_lease, sound_halt, sound_offer, sound_return}
 use Rattle.pool_core.specs.Best.{IsImproved, better_of}
 use Rattle.pool_core.specs.Seats.{IsKeptBy, StopsWithin, is_full}
+use Rattle.pool_core.proofs.MarksKept.{lease-fits}
 use Rattle.site_workers.specs.Search.{SearchEnds, IsBetween, centre_offer}
 
 -- ---- the best site
@@ -72,7 +75,7 @@ seen_itself j (Some b) h = (omega (arith, ints), at_most_start j.start h)
     at_most_start (Some s) (inl e) = subst (λ (z : Pt × ℤ). b.1 ≤ℤ z.1) e (omega (arith, ints))
     at_most_start (Some s) (inr l) = omega (arith, ints)
 
-centre-cost : (i : Instance) (s : Square) → cost_in (centre_offer i s) ≡ centre_cost i s
+pub centre-cost : (i : Instance) (s : Square) → cost_in (centre_offer i s) ≡ centre_cost i s
 centre-cost i s = costs (centre_site_of i s)
   where
     costs : (z : Option Pt) → cost_in (option_map (λ (z : Pt). (z, upper_of i z)) z) ≡ option_map (upper_of i) z
@@ -87,6 +90,26 @@ better-most (Some b) (Some o) = ⊎_elim (λ t. rw t (omega (arith, ints))) (λ 
   where
     most : int_lt o.1 b.1 ≡ false → b.1 ≤ℤ o.1
     most f = grind (arith, ints)
+
+-- the best site stays where an offer doesn't cost less
+pub better-stays : (best offered : Option (Pt × ℤ)) → MatchOption (cost_in offered) ⊤ (IsAtMost (cost_in best)) → best ≡ better_of best offered
+better-stays best None most = refl
+better-stays None (Some o) most = absurd most
+better-stays (Some b) (Some o) most = ⊎_elim (λ t. absurd (not_less t)) (λ f. rw f refl) (cases_Bool (int_lt o.1 b.1))
+  where
+    not_less : int_lt o.1 b.1 ≡ true → ⊥
+    not_less t = grind (arith, ints)
+
+-- the centre site of a square within the limits may be offered
+pub centre-offer : (i : Instance) (s : Square) → IsSquare s → MatchOption (centre_offer i s) ⊤ (λ o. IsOffer i o.0 o.1)
+unfolding has_centre
+centre-offer i s limits =
+    cond_both (nat_lt 0 s.level && permits i (point_of (centre_of s))) (Some (centre_of s)) None
+    (λ (z : Option Pt). MatchOption {T = Pt × ℤ} (option_map (λ (z : Pt). (z, upper_of i z)) z) ⊤ (λ o. IsOffer i o.0 o.1))
+    (λ here.
+    let parts = and_parts (nat_lt 0 s.level) (permits i (point_of (centre_of s))) here in
+    record { site = IsSite-centre s (ltb-true 0 s.level parts.0) limits; permitted = parts.1; cost_is = refl })
+    (λ not_here. tt)
 
 -- ---- between two leases
 -- before the first lease
@@ -122,6 +145,11 @@ kept_after false n count count' stop stop' none e e' f = rw (f, none) (omega (ar
 -- what was leased is leased
 pub leased_one : (s s1 : State) (e : Entry) → Leases e s s1 → Contains s1.leased e
 leased_one s s1 e l = Contains-permutation (e ∷ s.leased) s1.leased e l.leased (0, omega arith, refl)
+
+-- and its bound is right
+pub leased_fits : (j : Job) (first s s1 : State) (e : Entry) (best : Option (Pt × ℤ)) → IsBetween j first s best → Leases e s s1 → EntryFits j.instance e
+leased_fits j first s s1 e best b l =
+    subst (λ (k : Job). EntryFits k.instance e) b.job (lease-fits s.job.instance e s s1 l b.sound.waiting)
 
 turned_from : (first s s1 s2 : State) (e : Entry) (best best' : Option (Pt × ℤ)) → IsBetween s1.job first s best → IsTurn s1.job e best best' s s1 s2 → IsBetween s1.job first s2 best'
 turned_from first s s1 s2 e best best' b t =

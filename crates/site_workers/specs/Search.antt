@@ -1,5 +1,5 @@
 -- The search by one worker.
-use Rattle.std.specs.Prelude.{◌≡◌, ◌⊎◌, ℤ, if◌then◌else◌, List, [], ◌∷◌, Option, Some, None}
+use Rattle.std.specs.Prelude.{◌≡◌, ◌⊎◌, ℤ, if◌then◌else◌, List, [], ◌∷◌, Option, None}
 use Rattle.std.specs.Prelude.{option_map, MatchOption, ⊤}
 use Rattle.siting_definitions.specs.Point.{Pt}
 use Rattle.siting_definitions.specs.Instance.{Instance}
@@ -20,8 +20,8 @@ abbrev pub centre_offer : Instance → Square → Option (Pt × ℤ)
 centre_offer i s = option_map (λ (z : Pt). (z, upper_of i z)) (centre_site_of i s)
 
 -- The search from one state and best site to another, by the entries leased, the last one first: of
--- each, the centre site was offered, and then it came back with the finding for the best site's
--- cost.
+-- each, the centre site became the best where it costs less, and then it came back with the finding
+-- for the best site's cost.
 abbrev pub Searched : State → Option (Pt × ℤ) → List Entry → State → Option (Pt × ℤ) → Type 0
 Searched first start [] s best = (s ≡ first) × (best ≡ start)
 Searched first start (e ∷ es) s best =

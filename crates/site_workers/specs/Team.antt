@@ -3,11 +3,15 @@ use Rattle.std.specs.Prelude.{◌≡◌, true, IsSome, None, MatchOption, ⊤}
 use Rattle.std.specs.Option.{ForSome}
 use Rattle.siting_definitions.specs.Sites.{centre_cost}
 use Rattle.siting_definitions.specs.Marks.{IsAtMost}
+use Rattle.pool_core.specs.declared.verdict.Bounds.{Bounds}
 use Rattle.pool_core.specs.declared.verdict.Verdict.{Verdict}
+use Rattle.pool_core.specs.Job.{Job}
+use Rattle.pool_core.specs.Verdict.{bounds_of}
+use Rattle.pool_core.specs.Sound.{EntryFits}
 use Rattle.shared_pool.specs.declared.desk.Desk.{Desk}
 use Rattle.shared_pool.specs.declared.shared.SharedPool.{SharedPool}
 use Rattle.shared_pool.specs.declared.view.View.{View}
-use Rattle.shared_pool.specs.Calls.{IsCentreSeen, IsFound}
+use Rattle.shared_pool.specs.Calls.{IsCentreSeen, IsFineOf, IsFound}
 use Rattle.shared_pool.specs.Desks.{IsDeskOf, view}
 
 -- the desk is at the table, and has no lease
@@ -20,10 +24,15 @@ pub record HasEnded (shared : SharedPool) (d : Desk) : Type 0 where
   pub free : IsFree shared d
   pub ended : (view d).ended ≡ true
 
--- it has a lease
+-- it has a lease, and the bound of that is right
 pub record HasLease (shared : SharedPool) (d : Desk) : Type 0 where
   pub of : IsDeskOf shared d
   pub lease : IsSome (view d).lease
+  pub fits : ForSome (view d).lease (EntryFits (view d).first.job.instance)
+
+-- these are the bounds of its lease's square
+abbrev pub HasBounds : Job → View → Bounds → Type 0
+HasBounds j v bounds = ForSome v.lease (λ e. bounds ≡ bounds_of j e)
 
 -- what was seen is at most the upper cost of the centre site of the leased square, if it has one
 abbrev pub HasSeenCentre : View → Type 0
@@ -42,4 +51,5 @@ pub record HasVerdict (shared : SharedPool) (d : Desk) (verdict : Verdict) : Typ
   pub fresh : (view d).fresh ≡ true
   pub seen : verdict.seen ≡ (view d).seen
   pub finding : IsFound (view d) verdict.seen verdict.finding
+  pub fine : IsFineOf (view d) verdict.fine
   pub centre : IsCentreSeen (view d) verdict.seen verdict.finding

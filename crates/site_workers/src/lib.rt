@@ -1,6 +1,7 @@
 //! The search: one worker over a pool, or a team of workers over a shared one.
 #![tactic(auto)]
 
+mod centre;
 mod gate;
 mod member;
 #[cfg(test)]

@@ -1,19 +1,22 @@
 //! One worker of a team.
 
-ghost use Rattle.std.specs.Prelude.{◌≡◌, true};
+ghost use Rattle.std.specs.Prelude.{◌≡◌, true, IsSome};
 ghost use Rattle.shared_pool.specs.Desks.{first_pool, view};
-ghost use Rattle.site_workers.specs.Team.{HasEnded, HasLease, HasOffered, HasVerdict, IsFree};
+ghost use Rattle.site_workers.specs.Team.{HasBounds, HasEnded, HasLease, HasOffered};
+ghost use Rattle.site_workers.specs.Team.{HasVerdict, IsFree};
 
+use crate::centre::may_be_cheaper;
 use crate::gate::{Gate, Moment};
 use candidate_sites::centre_site;
 use crossbeam_utils::Backoff;
-use pool_core::{Job, Verdict, judge};
+use pool_core::{Bounds, Job, Verdict, bounds_of, judge_by};
 use shared_pool::{Desk, SharedPool, TryLease, TryReturn};
 use std::sync::Wait;
 
 /// Works with a desk until nothing is open or there is a stop: leases a square, offers its centre
-/// site, looks, judges it with what it has seen, and gives it back. Where the turn is taken or
-/// nothing waits it tries again, after a pause.
+/// site where that may be cheaper than what it has seen, looks, judges the square with what it has
+/// seen then, and gives it back. Where the turn is taken or nothing waits it tries again, after a
+/// pause.
 pub(crate) fn work<R: Wait, G: Gate>(
     rt: &R,
     gate: &G,
@@ -66,25 +69,44 @@ fn judge_lease(shared: &SharedPool, job: &Job, desk: &mut Desk) -> Verdict
     requires desk { HasLease shared.now desk.old }
     ensures { HasVerdict shared.now desk.new result }
 {
-    offer_centre(shared, job, desk);
+    let bounds = lease_bounds(job, desk);
+    offer_centre(shared, job, desk, bounds);
     look(shared, desk);
     match desk.lease() {
         None => unreachable!(),
-        Some(lease) => judge(job, lease, desk.seen()),
+        Some(lease) => judge_by(job, lease, bounds, desk.seen()),
     }
 }
 
-/// Offers the centre site of the leased square, if it has one.
-fn offer_centre(shared: &SharedPool, job: &Job, desk: &mut Desk)
+/// The bounds of the leased square.
+fn lease_bounds(job: &Job, desk: &Desk) -> Bounds
+    requires { IsSome (view desk.now).lease }
+    ensures { HasBounds job.now (view desk.now) result }
+{
+    match desk.lease() {
+        None => unreachable!(),
+        Some(lease) => bounds_of(job, lease),
+    }
+}
+
+/// Offers the centre site of the leased square, which has these bounds, if it has one and that may
+/// be cheaper than what the desk has seen.
+fn offer_centre(shared: &SharedPool, job: &Job, desk: &mut Desk, bounds: Bounds)
     requires job { (first_pool shared.now).job ≡ job.now }
     requires desk { HasLease shared.now desk.old }
-    ensures { HasOffered shared.now desk.new }
+    requires bounds { HasBounds job.now (view desk.old) bounds }
+    ensures offered { HasOffered shared.now desk.new }
+    ensures lease { (view desk.new).lease ≡ (view desk.old).lease }
 {
+    let instance = &job.instance;
+    if !may_be_cheaper(bounds, desk.seen()) {
+        return;
+    }
     let square = match desk.lease() {
         None => unreachable!(),
         Some(lease) => lease.square(),
     };
-    match centre_site(&job.instance, square) {
+    match centre_site(instance, square) {
         None => {}
         Some((site, upper)) => {
             shared.offer(desk, site, upper);
@@ -97,6 +119,7 @@ fn look(shared: &SharedPool, desk: &mut Desk)
     requires { HasOffered shared.now desk.old }
     ensures offered { HasOffered shared.now desk.new }
     ensures fresh { (view desk.new).fresh ≡ true }
+    ensures lease { (view desk.new).lease ≡ (view desk.old).lease }
 {
     shared.look(desk);
 }

@@ -5,18 +5,22 @@ ghost use Rattle.pool_core.specs.Best as bests;
 ghost use Rattle.pool_core.specs.Best.{IsImproved};
 ghost use Rattle.pool_core.specs.Job as jobs;
 ghost use Rattle.pool_core.specs.Job.{IsOffer};
+ghost use Rattle.pool_core.specs.Verdict as verdicts;
 ghost use Rattle.pool_core.specs.Verdict.{finding_of};
 ghost use Rattle.pool_core.specs.Machine.{Returns};
-ghost use Rattle.pool_core.specs.Sound.{IsFinished, IsPoolOf};
+ghost use Rattle.pool_core.specs.Sound.{EntryFits, IsFinished, IsPoolOf};
 ghost use Rattle.pool_core.specs.Seats.{IsKeptBy, is_full};
 ghost use Rattle.site_workers.specs.Search.{SearchEnds, centre_offer};
 
+use crate::centre::may_be_cheaper;
 use candidate_sites::centre_site;
-use pool_core::{Closed, Job, Lease, LeaseAnswer, Pool, better_of, cost_in, judge};
+use pool_core::{
+    Bounds, Closed, Job, Lease, LeaseAnswer, Pool, better_of, bounds_of, cost_in, judge_by,
+};
 use site_model::Site;
 
-/// One worker: leases squares, offers the centre site of each, judges it and gives it back, until
-/// nothing is open or there is a stop.
+/// One worker: leases squares, offers the centre site of each where that may be cheaper than the
+/// best site, judges it and gives it back, until nothing is open or there is a stop.
 ///
 /// It always returns, within the leases that the budget leaves, and takes no memory. Of two sites
 /// that cost the same the one that came first stays, the start before all others.
@@ -41,20 +45,47 @@ pub fn alone(job: &Job, pool: Pool) -> Closed
     }
 }
 
-/// Offers the centre site of a leased square, judges the square with the best site's cost, and
-/// gives it back. The best site, or the centre site where that costs less.
+/// Offers the centre site of a leased square, where that may be cheaper than the best site, judges
+/// the square with the best site's cost, and gives it back. The best site, or the centre site where
+/// that costs less.
 fn work(job: &Job, pool: &mut Pool, lease: Lease, best: &Option<(Site, i64)>) -> Option<(Site, i64)>
     requires job { pool.old.job ≡ job.now }
     requires leased { Contains pool.old.leased lease }
+    requires fits { EntryFits job.now.instance lease }
     ensures best { result ≡ bests.better_of best.now (centre_offer job.now.instance lease.square) }
     ensures offer { MatchOption (centre_offer job.now.instance lease.square) ⊤
         (λ o. IsOffer job.now.instance o.0 o.1) }
     ensures returned { let seen = jobs.cost_in result in
         Returns lease seen (finding_of job.now lease seen) pool.old pool.new }
 {
-    let offered = centre_site(&job.instance, lease.square());
-    let best = better_of(best, &offered);
-    let verdict = judge(job, &lease, cost_in(&best));
+    let bounds = bounds_of(job, &lease);
+    let best = best_after(job, &lease, bounds, best);
+    let verdict = judge_by(job, &lease, bounds, cost_in(&best));
     pool.give_back(lease, verdict);
     best
+}
+
+/// The best site, or the centre site of a leased square with these bounds where that costs less.
+fn best_after(
+    job: &Job,
+    lease: &Lease,
+    bounds: Bounds,
+    best: &Option<(Site, i64)>,
+) -> Option<(Site, i64)>
+    requires fits { EntryFits job.now.instance lease.now }
+    requires bounds { bounds ≡ verdicts.bounds_of job.now lease.now }
+    ensures best { result
+        ≡ bests.better_of best.now (centre_offer job.now.instance lease.now.square) }
+    ensures offer { MatchOption (centre_offer job.now.instance lease.now.square) ⊤
+        (λ o. IsOffer job.now.instance o.0 o.1) }
+{
+    let instance = &job.instance;
+    let square = lease.square();
+    // Shows that the square is within the limits.
+    let _side = square.side_len();
+    if !may_be_cheaper(bounds, cost_in(best)) {
+        return *best;
+    }
+    let offered = centre_site(instance, square);
+    better_of(best, &offered)
 }

@@ -2,12 +2,13 @@
 
 ghost use Rattle.std.specs.Prelude.{◌≤◌, true, false};
 ghost use Rattle.bsss_cli.specs.Check as checks;
+ghost use Rattle.bsss_cli.specs.Check.{SaysVerdict};
 ghost use Rattle.bsss_cli.specs.Ports.{source_ghosts, sink_ghosts};
 ghost use Rattle.bsss_cli.specs.Outcome.{Ran};
 
 use crate::output::{say, say_rejected};
 use crate::status::Status;
-use cert_checker::{CheckError, check};
+use cert_checker::{Accepted, CheckError, check};
 use pair_check::{OpenCheckGate, check_with};
 use port_io::{Sink, Source};
 use std::alloc::Global;
@@ -19,13 +20,7 @@ pub(crate) fn run_check<S: Source, K: Sink>(alloc: Global, source: &mut S, sink:
         (sink_ghosts K.room K.taken K.faults K.is_strict)
         (checks.check false) source.old source.new sink.old sink.new result }
 {
-    match check(alloc, source) {
-        Ok(_) => say(b"accepted\n", Status::Accepted, sink),
-        Err(CheckError::Fault(fault)) => say_rejected(fault, sink),
-        Err(CheckError::TooLong) => say(b"too long\n", Status::TooLong, sink),
-        Err(CheckError::ReadFault) => Status::ReadFault,
-        Err(CheckError::NoMemory) => Status::NoMemory,
-    }
+    say_verdict(check(alloc, source), sink)
 }
 
 /// Does the same with several workers, who share the lines.
@@ -42,7 +37,15 @@ pub(crate) fn run_check_by_team<R: Threads + Sync, S: Source, K: Sink>(
         (sink_ghosts K.room K.taken K.faults K.is_strict)
         (checks.check true) source.old source.new sink.old sink.new result }
 {
-    match check_with(rt, alloc, source, workers, &OpenCheckGate) {
+    say_verdict(check_with(rt, alloc, source, workers, &OpenCheckGate), sink)
+}
+
+/// Says the verdict of a check, or nothing where the source failed or memory ran out.
+fn say_verdict<K: Sink>(verdict: Result<Accepted, CheckError>, sink: &mut K) -> Status
+    ensures { SaysVerdict (sink_ghosts K.room K.taken K.faults K.is_strict)
+        sink.old sink.new verdict result }
+{
+    match verdict {
         Ok(_) => say(b"accepted\n", Status::Accepted, sink),
         Err(CheckError::Fault(fault)) => say_rejected(fault, sink),
         Err(CheckError::TooLong) => say(b"too long\n", Status::TooLong, sink),

@@ -6,7 +6,7 @@ ghost use Rattle.siting_definitions.specs.Instance.{IsInstance};
 ghost use Rattle.pool_core.specs.Job.{IsLawful};
 ghost use Rattle.command_line.specs.Command.{IsSettings};
 ghost use Rattle.bsss_cli.specs.Solve.{solve, job_to};
-ghost use Rattle.bsss_cli.specs.Begun.{IsBegun, IsJob, IsTextOf};
+ghost use Rattle.bsss_cli.specs.Begun.{IsBegun, IsJob, SaysInstance};
 ghost use Rattle.bsss_cli.specs.Ports.{source_ghosts, sink_ghosts};
 ghost use Rattle.bsss_cli.specs.Outcome.{Ended, Ran};
 
@@ -112,7 +112,7 @@ fn begin_text<K: Sink>(
     requires short { length bytes.now ≤ INSTANCE_LIMIT }
     ensures { MatchResult result
         (λ begun. (sink.new ≡ sink.old) × ((i : Instances.Instance)
-        × IsTextOf i bytes.now × IsJob settings i begun.0 begun.1))
+        × SaysInstance i bytes.now × IsJob settings i begun.0 begun.1))
         (λ status. Ended (sink_ghosts K.room K.taken K.faults K.is_strict)
         (solve settings) (Some bytes.now) sink.old sink.new status) }
 {

@@ -1,6 +1,7 @@
 //! The command `trial`.
 
-ghost use Rattle.std.specs.Prelude.{◌≡◌, ◌≤◌, ◌+◌, ◌*◌, Option, Some, List, ℕ, IfOk, Ok, map, true, is_some};
+ghost use Rattle.std.specs.Prelude.{◌≡◌, ◌≤◌, ◌+◌, ◌*◌, Option, Some, List, ℕ, IfOk, Ok, map, true};
+ghost use Rattle.std.specs.Prelude.{is_some};
 ghost use Rattle.port_io.specs.MemoryPorts.{sure_taken};
 ghost use Rattle.siting_definitions.specs.Answer.{IsValid};
 ghost use Rattle.siting_definitions.specs.AnswerText.{answer_text};

@@ -1,25 +1,5 @@
-use Rattle.std.proofs.Common.{◌^◌}
-use Rattle.dist_bounds.proofs.Axes.{spans_of, coordinate-passed, end-small, near-passed, near2-from}
 use Rattle.dist_bounds.proofs.DistanceLemmas.{near2-below}
 use Rattle.dist_bounds.proofs.near2.Goals as goal
 
-pub way_outside-requires-2-clause-high : goal.way_outside-requires-2-clause-high
-way_outside-requires-2-clause-high c =
-    let s = c.sq.inside in
-    let spans = spans_of (record { x = s.x; y = s.y; level = s.level }) _ c.side_len-side.result c.sq.invariant c.sq.view_is c.side_len-side.ensures.value c.side_len-side.ensures.within in
-    end-small s.y c.side_len-side.result (2 ^ s.level) spans.1
-
-pub returns-clause-value : goal.returns-clause-value
-returns-clause-value c =
-    let s = c.sq.inside in
-    let spans = spans_of (record { x = s.x; y = s.y; level = s.level }) _ c.side_len-side.result c.sq.invariant c.sq.view_is c.side_len-side.ensures.value c.side_len-side.ensures.within in
-    rw (← c.sq.view_is, ← c.a.view_is)
-    (near2-from _ _ c.on_grid.result c.on_grid-2.result c.way_outside.result c.way_outside-2.result c.sum_of_squares.result
-    (coordinate-passed c.on_grid.result c.a.inside.x c.a.invariant.x c.on_grid.ensures.value)
-    (coordinate-passed c.on_grid-2.result c.a.inside.y c.a.invariant.y c.on_grid-2.ensures.value)
-    (near-passed s.x c.side_len-side.result c.on_grid.result (2 ^ s.level) _ spans.0 c.on_grid.ensures.size c.way_outside.ensures.value)
-    (near-passed s.y c.side_len-side.result c.on_grid-2.result (2 ^ s.level) _ spans.1 c.on_grid-2.ensures.size c.way_outside-2.ensures.value)
-    c.sum_of_squares.ensures.value)
-
 pub returns-clause-encloses : goal.returns-clause-encloses
-returns-clause-encloses c = rw (returns-clause-value c) (near2-below c.args.sq c.args.a)
+returns-clause-encloses c = rw c.near_or_far2.ensures.value (near2-below c.args.sq c.args.a)

@@ -7,11 +7,11 @@ use Rattle.objectives.proofs.costs.cost_of.Goals as goal
 
 pub returns-clause-lower : goal.returns-clause-lower
 returns-clause-lower c =
-    lower-from c.args.instance.now c.args.site c.totals_of-lower.result.0 c.round_down.result (search rules) (search rules) c.totals_of-lower.ensures.lower c.round_down.ensures.value
+    lower-from c.args.instance.now c.args.site c.totals_of-lower.result.0 c.round_down.result (search rules) (search rules) c.totals_of-lower.ensures.first c.round_down.ensures.value
 
 pub returns-clause-upper : goal.returns-clause-upper
 returns-clause-upper c =
-    upper-from c.args.instance.now c.args.site c.totals_of-lower.result.1 c.round_up.result (search rules) (search rules) c.totals_of-lower.ensures.upper c.round_up.ensures.value
+    upper-from c.args.instance.now c.args.site c.totals_of-lower.result.1 c.round_up.result (search rules) (search rules) c.totals_of-lower.ensures.second c.round_up.ensures.value
 
 pub returns-clause-at_least : goal.returns-clause-at_least
 returns-clause-at_least c = rw (returns-clause-lower c) (lower_of-bounds c.args.instance.now c.args.site)

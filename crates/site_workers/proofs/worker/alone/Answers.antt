@@ -2,7 +2,7 @@ use Rattle.std.proofs.Common.{◌≡◌, ℤ, Option, sym, ap, ◌∙◌, subst,
 use Rattle.siting_definitions.specs.Point.{Pt}
 use Rattle.pool_core.specs.Job.{Job, IsJob}
 use Rattle.site_workers.specs.Search.{IsBetween}
-use Rattle.site_workers.proofs.SearchLemmas.{begun, ended_by, ended_with, kept_by_one, leased_one, turned, ends, stopped}
+use Rattle.site_workers.proofs.SearchLemmas.{begun, ended_by, ended_with, kept_by_one, leased_fits, leased_one, turned, ends, stopped}
 use Rattle.site_workers.proofs.worker.alone.Goals as goal
 
 pub loop-lease-init : goal.loop-lease-init
@@ -16,6 +16,10 @@ work-best-requires-clause-job c = c.in-Leased.ensures.job ∙ c.loop-lease.invar
 
 pub work-best-requires-clause-leased : goal.work-best-requires-clause-leased
 work-best-requires-clause-leased c = leased_one c.loop-lease.pool c.lease.new.self c.in-Leased.lease c.in-Leased.ensures
+
+pub work-best-requires-clause-fits : goal.work-best-requires-clause-fits
+work-best-requires-clause-fits c =
+    leased_fits c.args.job.now c.args.pool c.loop-lease.pool c.lease.new.self c.in-Leased.lease c.loop-lease.best c.loop-lease.invariant c.in-Leased.ensures
 
 pub loop-lease-smaller : goal.loop-lease-smaller
 loop-lease-smaller c =

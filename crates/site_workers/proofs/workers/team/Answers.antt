@@ -1,7 +1,6 @@
-use Rattle.std.proofs.Common.{List, sym, subst, arith}
+use Rattle.std.proofs.Common.{sym, subst, arith}
 use Rattle.std.specs.Prelude.{All}
 use Rattle.std.proofs.lemmas.List.{take_at}
-use Rattle.shared_pool.specs.declared.desk.Desk.{Desk}
 use Rattle.site_workers.specs.Team.{HasEnded}
 use Rattle.site_workers.proofs.workers.team.Goals as goal
 

@@ -1,13 +1,20 @@
-use Rattle.std.proofs.Common.{◌+◌, true, false, Some, refl, sym, arith}
-use Rattle.std.proofs.lemmas.List.{append-nil}
+use Rattle.std.proofs.Common.{◌+◌, ◌++◌, true, false, length, Some, refl, sym, ap, ◌∙◌, arith}
+use Rattle.std.proofs.lemmas.List.{append-nil, length-map}
 use Rattle.pool_core.specs.declared.pool.Pool.TheInside.{Inside}
+use Rattle.pool_core.specs.Machine.{nodes_from}
+use Rattle.pool_core.specs.Logged.{bounded_node}
 use Rattle.pool_core.specs.Pool.{state_of}
-use Rattle.pool_core.proofs.Returning.{Did, carry, closed_is, did_fits, did_step, fresh_given, level_given, stop_is}
+use Rattle.pool_core.proofs.LoggedLemmas.{IsLoggedBy}
+use Rattle.pool_core.proofs.Returning.{Did, carry, closed_is, did_fits, did_step, fresh_given, level_given, logged_given, stop_is}
 use Rattle.pool_core.proofs.pool.Pool.give_back.Goals as goal
 
 pub wait_found-requires-clause-level : goal.wait_found-requires-clause-level
 wait_found-requires-clause-level c =
     level_given c.args.self.now.job c.lease.inside.entry c.args.lease c.args.verdict.seen c.args.verdict.finding c.lease.view_is c.requires.verdict
+
+pub log_found-requires-clause-known : goal.log_found-requires-clause-known
+log_found-requires-clause-known c =
+    (logged_given c.self.inside c.args.self.now c.lease.inside.entry c.args.lease c.take_out.new.leased.items c.args.verdict.seen c.args.verdict.finding c.args.verdict.fine c.self.view_is c.lease.view_is c.self.invariant c.take_out.ensures.items c.requires.verdict c.requires.fine).known
 
 -- the part isn't made
 after_kept : goal.After-self-then-is_kept-1 → Inside
@@ -28,7 +35,8 @@ did_kept c =
       capacity = c.take_out.ensures.capacity;
       waiting = c.push.ensures.entries;
       spare = c.push.ensures.spare;
-      nodes = sym (append-nil c.self.inside.log.nodes);
+      nodes = sym (append-nil c.self.inside.history.nodes);
+      logged = sym (append-nil c.self.inside.log.nodes);
       log_spare = omega arith;
       kept = refl;
       stop = stop_is c.self.inside c.args.self.now c.open_count-count.result c.earlier.result c.self.view_is c.open_count-count.ensures c.earlier.ensures;
@@ -44,6 +52,7 @@ unfolding after_kept
 invariant_of-self c =
     did_fits c.lease.inside.entry c.args.verdict.seen c.args.verdict.finding true c.self.inside (after_kept c)
     (fresh_given c.args.self.now.job c.lease.inside.entry c.args.lease c.args.verdict.seen c.args.verdict.finding c.lease.view_is c.requires.verdict)
+    (logged_given c.self.inside c.args.self.now c.lease.inside.entry c.args.lease c.take_out.new.leased.items c.args.verdict.seen c.args.verdict.finding c.args.verdict.fine c.self.view_is c.lease.view_is c.self.invariant c.take_out.ensures.items c.requires.verdict c.requires.fine).entries
     (did_kept c) c.self.invariant
 
 pub returns-then-is_kept-clause-step : goal.returns-then-is_kept-clause-step
@@ -53,25 +62,32 @@ returns-then-is_kept-clause-step c =
     (did_step c.lease.inside.entry c.args.verdict.seen c.args.verdict.finding true c.self.inside (after_kept c) (did_kept c) c.self.invariant)
 
 -- the finding is carried out
+logged : (c : goal.After-given_by) → IsLoggedBy c.self.inside.job.instance c.lease.inside.entry.square c.args.verdict.seen c.args.verdict.finding c.args.verdict.fine
+logged c =
+    logged_given c.self.inside c.args.self.now c.lease.inside.entry c.args.lease c.take_out.new.leased.items c.args.verdict.seen c.args.verdict.finding c.args.verdict.fine c.self.view_is c.lease.view_is c.self.invariant c.take_out.ensures.items c.requires.verdict c.requires.fine
+
 after_found : goal.After-given_by → Inside
 after_found c =
     record c.self.inside {
       waiting = c.wait_found.new.waiting;
       leased = c.take_out.new.leased;
       log = c.log_found.new.log;
+      history = c.and-self-inside.result;
     }
 
 did_found : (c : goal.After-given_by) → Did c.lease.inside.entry c.args.verdict.seen c.args.verdict.finding false c.self.inside (after_found c)
 unfolding after_found
 did_found c =
+    let nodes = nodes_from c.lease.inside.entry.square c.args.verdict.seen c.args.verdict.finding in
     record {
       closed = closed_is c.self.inside c.args.self.now c.args.verdict.finding c.open_count-count.result c.is_kept.result false c.self.view_is c.open_count-count.ensures c.is_kept.ensures c.if-is_kept.false;
       leased = c.take_out.ensures.items;
       capacity = c.take_out.ensures.capacity;
       waiting = c.wait_found.ensures.entries;
       spare = c.wait_found.ensures.spare;
-      nodes = c.log_found.ensures.nodes;
-      log_spare = c.log_found.ensures.spare;
+      nodes = c.and-self-inside.ensures;
+      logged = c.log_found.ensures.nodes ∙ ap (λ ns. c.self.inside.log.nodes ++ ns) (logged c).nodes;
+      log_spare = sym (ap (λ n. c.log_found.new.log.spare + n) (ap length (logged c).nodes ∙ length-map nodes (bounded_node c.self.inside.job.instance))) ∙ c.log_found.ensures.spare;
       kept = omega arith;
       stop = refl;
       leases = refl;
@@ -86,6 +102,7 @@ unfolding after_found
 invariant_of-self-2 c =
     did_fits c.lease.inside.entry c.args.verdict.seen c.args.verdict.finding false c.self.inside (after_found c)
     (fresh_given c.args.self.now.job c.lease.inside.entry c.args.lease c.args.verdict.seen c.args.verdict.finding c.lease.view_is c.requires.verdict)
+    (logged c).entries
     (did_found c) c.self.invariant
 
 pub returns-clause-step : goal.returns-clause-step

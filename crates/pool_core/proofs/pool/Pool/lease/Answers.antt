@@ -32,6 +32,7 @@ leasing c = record {
   leases = refl;
   job = refl;
   log = refl;
+  history = refl;
   kept = refl;
   stop = refl;
   begun_nodes = refl;
