@@ -15,7 +15,8 @@ use Rattle.cert_checker.specs.Checking.{checking}
 use Rattle.cert_checker.proofs.ValidLemmas.{valid-accepted}
 use Rattle.resume_job.specs.declared.loading.LoadError.{LoadError}
 use Rattle.resume_job.specs.declared.loading.LoadError.TheVariants.{TooLong as LoadTooLong, Check}
-use Rattle.resume_job.specs.Loading.{IsOfSome, LoadsTo, LoadReadsAtMost, load_limit}
+use Rattle.resume_job.specs.Loading.{IsOfSome, LoadsTo, LoadReadsAtMost}
+use Rattle.siting_definitions.specs.declared.TheConstants.{LOAD_LIMIT}
 use Rattle.bsss_cli.specs.declared.status.Status.{Status}
 use Rattle.bsss_cli.specs.declared.status.Status.TheVariants.{Rejected, TooLong, NoMemory}
 use Rattle.bsss_cli.specs.Status.{Whole, meaning_of, code_of}
@@ -52,13 +53,13 @@ loads_end (Some bytes) left h ns e = e.1
 pub loads_all : (told left : Option (List ℕ)) (h : Head) (ns : List Node)
     → IfSome told (λ bytes. LoadsTo bytes left (Ok (h, ns)))
     → IfSome told (λ xs. HasRest xs left)
-    → IfSome told (λ xs. IfSome left (λ ys. length xs - length ys ≤ load_limit))
+    → IfSome told (λ xs. IfSome left (λ ys. length xs - length ys ≤ LOAD_LIMIT))
     → IfSome told (λ bytes. HasReadAnswer told left)
 loads_all None left h ns e rest stop = tt
 loads_all (Some bytes) left h ns e rest stop = of_left left e.1 rest stop
   where
     of_left : (after : Option (List ℕ)) → after ≡ Some [] → HasRest bytes after
-        → IfSome after (λ ys. length bytes - length ys ≤ load_limit)
+        → IfSome after (λ ys. length bytes - length ys ≤ LOAD_LIMIT)
         → HasReadAnswer (Some bytes) after
     of_left None gone rest stop = absurd rest.rest
     of_left (Some ys) gone rest stop =
@@ -99,7 +100,7 @@ rejected_all (Some bytes) left status end = λ fault e. end
 
 pub loads_too_long : (told left : Option (List ℕ)) (error : LoadError) → error ≡ LoadTooLong
     → IfSome told (λ bytes. LoadsTo bytes left (Err error))
-    → IfSome told (λ bytes. load_limit < length bytes)
+    → IfSome told (λ bytes. LOAD_LIMIT < length bytes)
 loads_too_long None left error e loads = tt
 loads_too_long (Some bytes) left error e loads =
     subst (λ (x : LoadError). LoadsTo bytes left (Err x)) e loads
@@ -111,7 +112,7 @@ pub refused_read : (told left : Option (List ℕ)) (error : LoadError) (status :
     (λ ys. LoadReadsAtMost {T = Head × List Node} (length xs - length ys) (Err error)))
     → IfSome told (λ bytes. (fault : CheckFault) → status ≡ Rejected fault → left ≡ Some [])
     → ((got : List ℕ) → LoadReadsAtMost {T = Head × List Node} (length got) (Err error)
-    → ReadsWithin load_limit got status)
+    → ReadsWithin LOAD_LIMIT got status)
     → IfSome told (λ bytes. HasRead loading told left status)
 refused_read None left error status rest stop all within = tt
 refused_read (Some bytes) left error status rest stop all within =
@@ -186,7 +187,7 @@ loaded_read p first (Some bytes) after status h = record {
   got = h.got;
   consumed = h.consumed;
   stops = first.stops h.got after status (record {
-    within = ReadsWithin-within load_limit h.got status h.short;
+    within = ReadsWithin-within LOAD_LIMIT h.got status h.short;
     all = λ fault e. h.end;
   });
 }

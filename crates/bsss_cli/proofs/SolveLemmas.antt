@@ -17,7 +17,7 @@ use Rattle.search_answer.specs.Ending.{Finishes, answer_of}
 use Rattle.command_line.specs.declared.command.Settings.{Settings}
 use Rattle.bsss_cli.specs.declared.status.Status.{Status}
 use Rattle.bsss_cli.specs.declared.status.Status.TheVariants.{BadInstance, TooLong, NoMemory}
-use Rattle.bsss_cli.specs.Texts.{instance_limit}
+use Rattle.siting_definitions.specs.declared.TheConstants.{INSTANCE_LIMIT}
 use Rattle.bsss_cli.specs.Status.{meaning_of, IsAnswer, status_of}
 use Rattle.bsss_cli.specs.Ports.{SourceGhosts, SinkGhosts}
 use Rattle.bsss_cli.specs.Outcome.{OfBytes, Says, Ended, Ran}
@@ -45,7 +45,7 @@ answers s i pool best h ns lawful finishes kept worked =
     }
 
 -- ---- what a solve answers
-pub Solves-answer : (s : Settings) (bytes : List ℕ) (i : Instance) (a : Answer) → length bytes ≤ instance_limit → reading bytes ≡ Ok i → IsAnswerTo i s a.head.word a → Solves s bytes a.head.word (answer_text a)
+pub Solves-answer : (s : Settings) (bytes : List ℕ) (i : Instance) (a : Answer) → length bytes ≤ INSTANCE_LIMIT → reading bytes ≡ Ok i → IsAnswerTo i s a.head.word a → Solves s bytes a.head.word (answer_text a)
 Solves-answer s bytes i a short read answered = record { short = short; instance = i; read = read; answer = a; answers = answered; written = refl }
 
 pub SolveAnswers-word : (s : Settings) (told : Option (List ℕ)) (text : List ℕ) (word : Word) → OfBytes told (λ bytes. Solves s bytes word text) → SolveAnswers s told (status_of word) text
@@ -114,7 +114,7 @@ solve_lacks_memory s old new j first sink begun =
     Ran-no_memory (solve s) old new sink refl refl (begun.source NoMemory) (begun.stops NoMemory)
 
 -- ---- what a solve must answer
-is_answer : (s : Settings) (bytes : List ℕ) (status : Status) (text : List ℕ) (i : Instance) → length bytes ≤ instance_limit → reading bytes ≡ Ok i → SolveAnswers s (Some bytes) status text → IsAnswer status
+is_answer : (s : Settings) (bytes : List ℕ) (status : Status) (text : List ℕ) (i : Instance) → length bytes ≤ INSTANCE_LIMIT → reading bytes ≡ Ok i → SolveAnswers s (Some bytes) status text → IsAnswer status
 is_answer s bytes (BadInstance number line) text i short read h = absurd (ok≢err (reading bytes) i (record { number = number; line = line }) read h.1.1)
 is_answer s bytes TooLong text i short read h = absurd (omega (arith, h.1))
 is_answer s bytes status text i short read h =

@@ -7,7 +7,7 @@ use Rattle.pool_core.specs.State.{State}
 use Rattle.pool_core.specs.Sound.{IsPoolOf}
 use Rattle.command_line.specs.declared.command.Settings.{Settings}
 use Rattle.bsss_cli.specs.declared.status.Status.{Status}
-use Rattle.bsss_cli.specs.Texts.{instance_limit}
+use Rattle.siting_definitions.specs.declared.TheConstants.{INSTANCE_LIMIT}
 use Rattle.bsss_cli.specs.Ports.{SourceGhosts, KeepsSource}
 use Rattle.bsss_cli.specs.Outcome.{OfBytes, HasRead}
 use Rattle.bsss_cli.specs.Solve.{job_to, solve}
@@ -20,7 +20,7 @@ pub record IsJob (s : Settings) (i : Instance) (j : Job) (pool : State) : Type 0
 
 -- the bytes say the instance
 pub record SaysInstance (i : Instance) (bytes : List ℕ) : Type 0 where
-  pub short : length bytes ≤ instance_limit
+  pub short : length bytes ≤ INSTANCE_LIMIT
   pub read : reading bytes ≡ Ok i
 
 -- The source was read to its end, and what it gave says the instance of the job.

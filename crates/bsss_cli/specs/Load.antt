@@ -9,7 +9,8 @@ use Rattle.search_answer.specs.Ending.{answer_of}
 use Rattle.cert_checker.specs.declared.faults.CheckFault.{CheckFault}
 use Rattle.cert_checker.specs.declared.faults.CheckError.TheVariants as errors
 use Rattle.cert_checker.specs.Checking.{checking}
-use Rattle.resume_job.specs.Loading.{AreOfValid, load_limit}
+use Rattle.resume_job.specs.Loading.{AreOfValid}
+use Rattle.siting_definitions.specs.declared.TheConstants.{LOAD_LIMIT}
 use Rattle.bsss_cli.specs.declared.status.Status.{Status}
 use Rattle.bsss_cli.specs.declared.status.Status.TheVariants.{Rejected, TooLong}
 use Rattle.bsss_cli.specs.Texts.{too_long, rejected}
@@ -23,21 +24,21 @@ pub record IsTextOfValid (a : Answer) (bytes : List ℕ) : Type 0 where
 
 -- the bytes may be loaded, are not the text of a valid answer, and this is their first fault
 pub record IsRejectedAs (fault : CheckFault) (bytes : List ℕ) : Type 0 where
-  pub short : length bytes ≤ load_limit
+  pub short : length bytes ≤ LOAD_LIMIT
   pub says : checking bytes ≡ Err (errors.Fault fault)
 
 -- The refusals, each with the text that is written then. A valid answer has neither: it is never
 -- too long.
 abbrev pub LoadAnswers : Option (List ℕ) → Status → List ℕ → Type 0
 LoadAnswers told TooLong text =
-    (text ≡ too_long) × IfSome told (λ bytes. load_limit < length bytes)
+    (text ≡ too_long) × IfSome told (λ bytes. LOAD_LIMIT < length bytes)
 LoadAnswers told (Rejected fault) text =
     (text ≡ rejected fault) × OfBytes told (IsRejectedAs fault)
 LoadAnswers told status text = ⊥
 
 -- How much of its source such a command read. Also where the answer is rejected, that is all.
 pub record LoadStops (got : List ℕ) (left : Option (List ℕ)) (status : Status) : Type 0 where
-  pub within : ReadsWithin load_limit got status
+  pub within : ReadsWithin LOAD_LIMIT got status
   pub all : (fault : CheckFault) → status ≡ Rejected fault → left ≡ Some []
 
 -- what such a command promises until an answer is loaded
@@ -55,7 +56,7 @@ loading = record {
 pub record HasReadAnswer (before after : Option (List ℕ)) : Type 0 where
   pub got : List ℕ
   pub consumed : Consumes before after got
-  pub short : length got ≤ load_limit
+  pub short : length got ≤ LOAD_LIMIT
   pub end : after ≡ Some []
 
 -- The source was read to its end, and gave the text of the valid answer with this head and these

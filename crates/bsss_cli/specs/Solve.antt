@@ -15,7 +15,8 @@ use Rattle.command_line.specs.declared.command.Settings.{Settings}
 use Rattle.bsss_cli.specs.declared.status.Status.{Status}
 use Rattle.bsss_cli.specs.declared.status.Status.TheVariants.{BadInstance, TooLong}
 use Rattle.bsss_cli.specs.Status.{meaning_of, IsAnswer}
-use Rattle.bsss_cli.specs.Texts.{instance_limit, too_long, bad_instance}
+use Rattle.siting_definitions.specs.declared.TheConstants.{INSTANCE_LIMIT}
+use Rattle.bsss_cli.specs.Texts.{too_long, bad_instance}
 use Rattle.bsss_cli.specs.Outcome.{Promise, OfBytes, ReadsWithin}
 
 -- the opening with its upper cost, if there is one
@@ -45,7 +46,7 @@ pub record IsAnswerTo (i : Instance) (s : Settings) (end : Word) (a : Answer) : 
 
 -- the bytes are an instance text, and the text written is that of an answer to its instance
 pub record Solves (s : Settings) (bytes : List ℕ) (word : Word) (text : List ℕ) : Type 0 where
-  pub short : length bytes ≤ instance_limit
+  pub short : length bytes ≤ INSTANCE_LIMIT
   pub instance : Instance
   pub read : reading bytes ≡ Ok instance
   pub answer : Answer
@@ -55,7 +56,7 @@ pub record Solves (s : Settings) (bytes : List ℕ) (word : Word) (text : List �
 -- the bytes are no instance text, and this is their fault
 abbrev pub HasFault : ℕ → ℕ → List ℕ → Type 0
 HasFault number line bytes =
-    (length bytes ≤ instance_limit)
+    (length bytes ≤ INSTANCE_LIMIT)
     × (reading bytes ≡ Err (record { number = number; line = line }))
 
 -- What a solve may answer, and the text that it writes then: each status only where its condition
@@ -64,7 +65,7 @@ abbrev pub SolveAnswers : Settings → Option (List ℕ) → Status → List ℕ
 SolveAnswers s told (BadInstance number line) text =
     (text ≡ bad_instance number line) × OfBytes told (HasFault number line)
 SolveAnswers s told TooLong text =
-    (text ≡ too_long) × IfSome told (λ bytes. instance_limit < length bytes)
+    (text ≡ too_long) × IfSome told (λ bytes. INSTANCE_LIMIT < length bytes)
 SolveAnswers s told status text =
     MatchOption (meaning_of status).word ⊥
     (λ word. OfBytes told (λ bytes. Solves s bytes word text))
@@ -72,7 +73,7 @@ SolveAnswers s told status text =
 -- an answer to each instance text within the limit
 abbrev pub SolveWants : Option (List ℕ) → Status → Type 0
 SolveWants told status =
-    IfSome told (λ bytes. (i : Instance) → length bytes ≤ instance_limit → reading bytes ≡ Ok i
+    IfSome told (λ bytes. (i : Instance) → length bytes ≤ INSTANCE_LIMIT → reading bytes ≡ Ok i
     → IsAnswer status)
 
 abbrev pub solve : Settings → Promise
@@ -80,7 +81,7 @@ solve s = record {
   reads = true;
   takes_memory = true;
   reads_ahead = false;
-  stops = λ got left status. ReadsWithin instance_limit got status;
+  stops = λ got left status. ReadsWithin INSTANCE_LIMIT got status;
   answers = SolveAnswers s;
   wanted = SolveWants;
 }

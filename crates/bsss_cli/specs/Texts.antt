@@ -4,10 +4,6 @@ use Rattle.std.specs.Fmt.{signed_decimal}
 use Rattle.cert_checker.specs.declared.faults.Differ.{Differ}
 use Rattle.cert_checker.specs.declared.faults.CheckFault.{CheckFault}
 
--- how many bytes an instance text has at most
-abbrev pub instance_limit : ℕ
-instance_limit = 1048576
-
 abbrev pub bad_words : List ℕ
 bad_words = codes "bad words\n"
 

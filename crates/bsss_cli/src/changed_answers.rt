@@ -1,6 +1,6 @@
 //! Answers with one line changed, and what `check` writes of them.
 
-use super::tests::run_words;
+use super::tests::{CORNER_ANSWER, run_words};
 use std::alloc::Global;
 use std::sync::Wait;
 use std::test::Fail;
@@ -206,6 +206,41 @@ const IRRATIONAL_CHANGES: [Change; 13] = [
     (35, "F 92682", "rejected 9 line 35"),
 ];
 
+/// The numbers of the corner's answer at their limits, and one past them.
+#[rattlefmt::skip]
+const LIMIT_CHANGES: [Change; 30] = [
+    (7, "gap 4611686018427387904", "accepted"),
+    (7, "gap 4611686018427387905", "rejected 1 line 7"),
+    (7, "gap -1", "rejected 1 line 7"),
+    (8, "budget 1000000", "accepted"),
+    (8, "budget 1000001", "rejected 1 line 8"),
+    (9, "pool 1", "accepted"),
+    (9, "pool 0", "rejected 1 line 9"),
+    (9, "pool 1000000", "accepted"),
+    (9, "pool 1000001", "rejected 1 line 9"),
+    (10, "site 274877906944 0", "rejected 3 line 10"),
+    (10, "site 274877906945 0", "rejected 1 line 10"),
+    (10, "site 0 -274877906944", "rejected 3 line 10"),
+    (10, "site 0 -274877906945", "rejected 1 line 10"),
+    (11, "cost 9223372036854775807 327680", "rejected 4 line 11 has 9223372036854775807 wants 327680"),
+    (11, "cost 9223372036854775808 327680", "rejected 1 line 11"),
+    (11, "cost 327680 -9223372036854775808", "rejected 4 line 11 has -9223372036854775808 wants 327680"),
+    (11, "cost 327680 -9223372036854775809", "rejected 1 line 11"),
+    (12, "bound 9223372036854775807", "rejected 11 line 18 has 9223372036854775807 wants 327680"),
+    (12, "bound 9223372036854775808", "rejected 1 line 12"),
+    (12, "bound -9223372036854775808", "rejected 11 line 18 has -9223372036854775808 wants 327680"),
+    (12, "bound -9223372036854775809", "rejected 1 line 12"),
+    (14, "open 1000000", "rejected 13 line 18"),
+    (14, "open 1000001", "rejected 1 line 14"),
+    (15, "leases 2", "accepted"),
+    (15, "leases 1000000", "rejected 13 line 18"),
+    (15, "leases 1000001", "rejected 1 line 15"),
+    (17, "B 9223372036854775807", "rejected 8 line 17 has 9223372036854775807 wants 327680"),
+    (17, "B 9223372036854775808", "rejected 1 line 17"),
+    (17, "B -9223372036854775808", "rejected 8 line 17 has -9223372036854775808 wants 327680"),
+    (17, "B -9223372036854775809", "rejected 1 line 17"),
+];
+
 /// The text of these lines.
 fn text_of(alloc: Global, lines: &[Line]) -> Result<String, Fail> {
     let mut text = String::new(alloc);
@@ -265,6 +300,16 @@ fn a_line_is_changed(rt: HostRuntime) -> Result<(), Fail> {
             let written = check_with(&rt, rt.alloc(), text, *number, instead.as_str())?;
             assert_eq!(rt; written.as_str(), *wanted, "line {number}: {line}");
         }
+    }
+    Ok(())
+}
+
+#[test]
+fn each_number_at_its_limit(rt: HostRuntime) -> Result<(), Fail> {
+    for (number, line, wanted) in LIMIT_CHANGES.as_slice() {
+        let instead = format!(in rt.alloc(); "{line}\n")?;
+        let written = check_with(&rt, rt.alloc(), CORNER_ANSWER, *number, instead.as_str())?;
+        assert_eq!(rt; written.as_str(), *wanted, "line {number}: {line}");
     }
     Ok(())
 }

@@ -13,7 +13,7 @@ mod solves;
 mod teams;
 mod trials;
 
-use crate::{Argv, GapRule, OpenGate, Status, gap_of, run};
+use crate::{Argv, GapRule, Gate, OpenGate, Status, gap_of, run};
 use cert_checker::CheckFault;
 use port_io::{MemSink, MemSource};
 use site_model::Site;
@@ -45,7 +45,7 @@ const TEN_TOWNS: &str = "siting 1\nkind sum\npoint 12000 34000 45000\npoint 5600
     forbid 40000 50000 58000 52000 60000 62000 45000 66000 38000 58000\nend\n";
 
 /// The answer to `CORNER` with no gap.
-const CORNER_ANSWER: &str =
+pub(super) const CORNER_ANSWER: &str =
     "siting answer 1\nsiting 1\nkind sum\npoint 0 0 1\npermit 3 4 9 4 3 10\nend\ngap 0\n\
     budget 100000\npool 100000\nsite 196608 262144\ncost 327680 327680\nbound 327680\n\
     answer solved\nopen 0\nleases 1\nroot 196608 262144 19\nB 327680\nend\n";
@@ -81,6 +81,21 @@ fn sink_of(alloc: Global, chunk: usize, fails: u64) -> Result<MemSink, Fail>
     Ok(MemSink::with_room(alloc, 100_000, chunk, fails)?)
 }
 
+/// The status with which a run ends whose workers pass a gate, and what it writes.
+fn run_gated<G: Gate + Sync>(
+    rt: &(impl Threads + Wait + Sync),
+    alloc: Global,
+    line: &str,
+    input: &str,
+    gate: &G,
+) -> Result<(Status, MemSink), Fail> {
+    let words = words_of(alloc, line)?;
+    let mut source = source_of(alloc, input, 0)?;
+    let mut sink = sink_of(alloc, 64, 0)?;
+    let status = run(rt, alloc, &words, &mut source, &mut sink, gate);
+    Ok((status, sink))
+}
+
 /// The code with which a run ends, and what it writes.
 pub(super) fn run_words(
     rt: &(impl Threads + Wait + Sync),
@@ -88,10 +103,7 @@ pub(super) fn run_words(
     line: &str,
     input: &str,
 ) -> Result<(u8, MemSink), Fail> {
-    let words = words_of(alloc, line)?;
-    let mut source = source_of(alloc, input, 0)?;
-    let mut sink = sink_of(alloc, 64, 0)?;
-    let status = run(rt, alloc, &words, &mut source, &mut sink, &OpenGate);
+    let (status, sink) = run_gated(rt, alloc, line, input, &OpenGate)?;
     Ok((status.code(), sink))
 }
 

@@ -4,9 +4,9 @@
 pub(crate) fn instance_fault(number: u8) -> &'static str {
     match number {
         1 => {
-            "BadHeader: the first line isn't `siting 1` or `siting 2`; mostly it is missing, or a \
-            byte order mark or UTF-16 stands before it, or the text is an answer, which `resume` \
-            takes"
+            "BadHeader: the first line isn't `siting 1` or `siting 2`; mostly the input is empty, \
+            the line is missing, a byte order mark or UTF-16 stands before it, or the text is an \
+            answer, which `check`, `resume`, `polish` and `near` take"
         }
         2 => {
             "BadLine: no line has these fields: `kind sum` or `kind max`, `point X Y WEIGHT`, \
@@ -35,7 +35,11 @@ pub(crate) fn instance_fault(number: u8) -> &'static str {
             on a straight edge, or the area isn't convex: cut it (docs/GUIDE.md, \"Areas that \
             aren't convex\")"
         }
-        11 => "TooManyPolygons: there are more than 64 of this word",
+        11 => {
+            "TooManyPolygons: there are more than 64 of this word; leave out those that forbid \
+            nothing that is permitted, or cut the region into strips, each with those that reach \
+            it"
+        }
         12 => "NoKind: there is no line `kind sum` or `kind max`",
         13 => "TwoKinds: there is a `kind` line already",
         14 => "NoPoint: there is no town",

@@ -14,6 +14,9 @@ use port_io::{Out, Piece, Sink, WriteFault};
 const NO_VALUE: &str =
     "isn't NAME=NUMBER, without spaces; an input comes from standard input, as in: < FILE";
 
+/// How many bytes of a word are quoted at most.
+const QUOTED: usize = 60;
+
 /// Writes what helps the user of a run with these words that ended with this status, and nothing
 /// where the run did what was asked.
 pub fn write_help<K: Sink>(words: &Argv, status: Status, sink: &mut K) -> Result<(), WriteFault> {
@@ -82,13 +85,39 @@ fn put_word<'x, K: Sink>(
     if i >= words.len() {
         return Ok(());
     }
+    put_quoted(words.word(i), out)?;
+    out.put_pieces(&[Piece::Text(what.as_bytes()), Piece::Text(b"\n")])
+}
+
+/// Puts the beginning of a line, which quotes a word.
+fn put_quoted<K: Sink>(word: &[u8], out: &mut Out<K>) -> Result<(), WriteFault>
+    requires { IsOpen out.old }
+    ensures { IfOk result (λ _. IsOpen out.new) }
+{
+    let shown = printable(word);
+    let end: &[u8] = if word.len() <= QUOTED {
+        b"` "
+    } else {
+        b"...` (cut short) "
+    };
     out.put_pieces(&[
         Piece::Text(b"bsss: `"),
-        Piece::Text(words.word(i)),
-        Piece::Text(b"` "),
-        Piece::Text(what.as_bytes()),
-        Piece::Text(b"\n"),
+        Piece::Text(&shown[..word.len().min(QUOTED)]),
+        Piece::Text(end),
     ])
+}
+
+/// The first bytes of a word, with `?` for each that isn't a printable one of ASCII.
+fn printable(word: &[u8]) -> [u8; QUOTED] {
+    let mut shown = [b' '; QUOTED];
+    for (place, byte) in shown.iter_mut().zip(word) {
+        *place = if matches!(*byte, b' '..=b'~') {
+            *byte
+        } else {
+            b'?'
+        };
+    }
+    shown
 }
 
 /// Puts a word whose number is out of its range.
@@ -105,10 +134,9 @@ fn put_range<K: Sink>(
     if i >= words.len() {
         return Ok(());
     }
+    put_quoted(words.word(i), out)?;
     out.put_pieces(&[
-        Piece::Text(b"bsss: `"),
-        Piece::Text(words.word(i)),
-        Piece::Text(b"` is out of its range, which is from "),
+        Piece::Text(b"is out of its range, which is from "),
         Piece::Number(capped(low)),
         Piece::Text(b" to "),
         Piece::Number(capped(high)),

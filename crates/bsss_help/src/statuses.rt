@@ -15,19 +15,22 @@ pub(crate) fn sentence_of(status: Status) -> &'static str {
             costs\")"
         }
         Status::TooLong => {
-            "the input is longer than it may be: 1048576 bytes of an instance, 100000000 of an \
-            answer that is read whole, 2^30 of one that is checked"
+            "the input is longer than it may be: 1048576 bytes of an instance (an answer goes to \
+            `check`, `resume`, `polish` or `near`), 100000000 of an answer that is read whole, \
+            2^30 of one that is checked"
         }
         Status::PoolFull => {
             "not solved: the room for open squares was used up. The answer stands: its site costs \
             at most `cost` less `bound` more than the best. `bsss resume budget=NUMBER \
-            pool=NUMBER` with a larger pool goes on from it (docs/GUIDE.md, \"When it isn't \
-            solved\")"
+            pool=NUMBER` with a larger pool, up to 1000000, goes on from it; where that is too \
+            small, take a wider gap, or cut the region into strips (docs/GUIDE.md, \"When it \
+            isn't solved\")"
         }
         Status::Budget => {
             "not solved: the budget was used up. The answer stands: its site costs at most `cost` \
-            less `bound` more than the best. `bsss resume budget=NUMBER` goes on from it \
-            (docs/GUIDE.md, \"When it isn't solved\")"
+            less `bound` more than the best. `bsss resume budget=NUMBER` goes on from it; where \
+            its bound hardly rises, there may be a seam between forbidden polygons that touch: \
+            let them overlap (docs/GUIDE.md, \"When it isn't solved\")"
         }
         Status::Floor => {
             "not solved: squares of one grid unit are left. The answer stands: its site costs at \

@@ -84,6 +84,16 @@ fn each_kind_of_bad_words(rt: HostRuntime) -> Result<(), Fail> {
             "trial seed=1 points=1 ppm=1 gap=1",
             "bsss: `gap` and `ppm` don't stand together\n",
         ),
+        (
+            "a-word-of-sixty-bytes-------------------------------------60",
+            "bsss: `a-word-of-sixty-bytes-------------------------------------60` is no command\n",
+        ),
+        (
+            "a-word-of-sixty-one-bytes---------------------------------60x",
+            "bsss: `a-word-of-sixty-one-bytes---------------------------------60...` (cut short) is \
+            no command\n",
+        ),
+        ("s\u{1b}olve~", "bsss: `s?olve~` is no command\n"),
         ("make seed=1", "bsss: `points=NUMBER` is missing\n"),
         ("resume pool=1", "bsss: `budget=NUMBER` is missing\n"),
         (

@@ -9,6 +9,7 @@ use Rattle.std.specs.Str.{bytes_eq}
 use Rattle.std.specs.Fmt.{signed_decimal}
 use Rattle.text_lines.specs.Numbers.{number_of}
 use Rattle.text_lines.specs.Words.{line_bytes}
+use Rattle.siting_definitions.specs.declared.TheConstants.{GAP_LIMIT, BUDGET_LIMIT, POOL_LIMIT}
 use Rattle.siting_definitions.specs.declared.Mark.{Mark}
 use Rattle.siting_definitions.specs.declared.Mark.TheVariants.{Split, Shut, Bounded}
 use Rattle.siting_definitions.specs.declared.Mark.TheVariants.{Floor as FloorMark, Left}
@@ -21,14 +22,6 @@ use Rattle.siting_definitions.specs.Answer.{Best}
 use Rattle.siting_definitions.specs.AnswerText.{root_line}
 use Rattle.certificate.specs.declared.reader.Item.{Item}
 use Rattle.certificate.specs.declared.reader.Item.TheVariants.{Node, End}
-
--- the greatest gap, in cost units
-abbrev pub most_gap : ℕ
-most_gap = 2 ^ 62
-
--- the greatest count
-abbrev pub most_count : ℕ
-most_count = 1000000
 
 -- how far a coordinate of a site may be from 0, in grid units
 abbrev pub farthest : ℕ
@@ -91,13 +84,13 @@ version_form line =
     else (if bytes_eq line (codes "siting answer 2") then Some true else None)
 
 abbrev pub gap_form : List ℕ → Option ℤ
-gap_form line = number_form (codes "gap") (pos 0) (pos most_gap) line
+gap_form line = number_form (codes "gap") (pos 0) (pos GAP_LIMIT) line
 
 abbrev pub budget_form : List ℕ → Option ℤ
-budget_form line = number_form (codes "budget") (pos 0) (pos most_count) line
+budget_form line = number_form (codes "budget") (pos 0) (pos BUDGET_LIMIT) line
 
 abbrev pub pool_form : List ℕ → Option ℤ
-pool_form line = number_form (codes "pool") (pos 1) (pos most_count) line
+pool_form line = number_form (codes "pool") (pos 1) (pos POOL_LIMIT) line
 
 -- each coordinate is at most 2 ^ 38 in size
 abbrev pub site_number : List ℕ → Option ℤ
@@ -137,10 +130,10 @@ abbrev pub word_form : List ℕ → Option Word
 word_form line = option_and_then word_in (after_word (codes "answer") line)
 
 abbrev pub open_form : List ℕ → Option ℤ
-open_form line = number_form (codes "open") (pos 0) (pos most_count) line
+open_form line = number_form (codes "open") (pos 0) (pos POOL_LIMIT) line
 
 abbrev pub leases_form : List ℕ → Option ℤ
-leases_form line = number_form (codes "leases") (pos 0) (pos most_count) line
+leases_form line = number_form (codes "leases") (pos 0) (pos BUDGET_LIMIT) line
 
 -- the line of the root
 abbrev pub root_form : Square → List ℕ → Option Square

@@ -1,7 +1,8 @@
 -- The head of an answer as it is read, line by line, and the first fault of its form.
-use Rattle.std.specs.Prelude.{ℕ, ◌+◌, ◌^◌, ℤ, unsigned_abs, Bool, true, false, ◌&&◌, if◌then◌else◌}
+use Rattle.std.specs.Prelude.{ℕ, ◌+◌, ℤ, unsigned_abs, Bool, true, false, ◌&&◌, if◌then◌else◌}
 use Rattle.std.specs.Prelude.{List, [], ◌∷◌, length, codes, Option, Some, None, Result, Ok, Err, ⊤}
 use Rattle.std.specs.Str.{bytes_eq}
+use Rattle.siting_definitions.specs.declared.TheConstants.{CHECK_LIMIT}
 use Rattle.siting_definitions.specs.declared.Word.{Word}
 use Rattle.siting_definitions.specs.Instance.{Instance}
 use Rattle.siting_definitions.specs.InstanceText.{instance_text, has_cutoff}
@@ -24,7 +25,7 @@ use Rattle.certificate.specs.Forms.{root_form}
 
 -- how many bytes of an answer may be read
 abbrev pub answer_limit : ℕ
-answer_limit = 2 ^ 30
+answer_limit = CHECK_LIMIT
 
 -- the beginning of these bytes
 abbrev pub coming_of : List ℕ → Coming

@@ -22,14 +22,11 @@ mod tests;
 use line_stream::{LineError, Lines};
 use lines::{read_end, read_item};
 use port_io::Source;
-use siting_definitions::Mark;
+use siting_definitions::{CHECK_LIMIT, Mark};
 use thiserror::Error;
 
-/// How many bytes of an answer may be read.
-const ANSWER_LIMIT: u32 = 1 << 30;
-
 /// The lines of an answer.
-type AnswerLines = Lines<ANSWER_LIMIT>;
+type AnswerLines = Lines<CHECK_LIMIT>;
 
 /// A line after the head.
 #[derive(Clone, Copy, Debug, PartialEq, Eq)]

@@ -1,6 +1,9 @@
 -- The ranges of a command's numbers, and which command wants a team.
 use Rattle.std.specs.Prelude.{◌≡◌, ℕ, ◌^◌, ◌≤◌, nat_le, Bool, false, ℤ, pos, ◌≤ℤ◌, ⊤}
 use Rattle.std.specs.Prelude.{Option, Some, IfSome}
+use Rattle.siting_definitions.specs.declared.TheConstants.{GAP_LIMIT, PPM_LIMIT, BUDGET_LIMIT}
+use Rattle.siting_definitions.specs.declared.TheConstants.{POOL_LIMIT, WORKER_LIMIT, SEED_LIMIT}
+use Rattle.siting_definitions.specs.declared.TheConstants.{POINT_LIMIT}
 use Rattle.siting_definitions.specs.declared.GapRule.{GapRule}
 use Rattle.siting_definitions.specs.declared.GapRule.TheVariants.{Fixed, Ppm}
 use Rattle.command_line.specs.declared.command.Settings.{Settings}
@@ -10,26 +13,26 @@ use Rattle.command_line.specs.declared.command.Command.TheVariants.{Polish, Near
 
 -- the ranges of the numbers of a rule for the gap
 abbrev pub IsGapRule : GapRule → Type 0
-IsGapRule (Fixed gap) = ((pos 0) ≤ℤ gap) × (gap ≤ℤ pos (2 ^ 62))
-IsGapRule (Ppm ppm) = ppm ≤ 1000000
+IsGapRule (Fixed gap) = ((pos 0) ≤ℤ gap) × (gap ≤ℤ pos GAP_LIMIT)
+IsGapRule (Ppm ppm) = ppm ≤ PPM_LIMIT
 
 -- the ranges of settings
 pub record IsSettings (s : Settings) : Type 0 where
   pub gap : IsGapRule s.gap
-  pub budget : s.budget ≤ 1000000
-  pub pool : (1 ≤ s.pool) × (s.pool ≤ 1000000)
-  pub workers : (1 ≤ s.workers) × (s.workers ≤ 64)
+  pub budget : s.budget ≤ BUDGET_LIMIT
+  pub pool : (1 ≤ s.pool) × (s.pool ≤ POOL_LIMIT)
+  pub workers : (1 ≤ s.workers) × (s.workers ≤ WORKER_LIMIT)
 
 -- the ranges of the seed and the points of a made instance
 pub record IsMaking (seed points : ℕ) : Type 0 where
-  pub seed_most : seed ≤ 2147483647
-  pub points_range : (1 ≤ points) × (points ≤ 4096)
+  pub seed_most : seed ≤ SEED_LIMIT
+  pub points_range : (1 ≤ points) × (points ≤ POINT_LIMIT)
 
 -- the ranges of the numbers of a resumption
 pub record IsResuming (budget : ℕ) (pool : Option ℕ) (workers : ℕ) : Type 0 where
-  pub budget_most : budget ≤ 1000000
-  pub pool_range : IfSome pool (λ n. (1 ≤ n) × (n ≤ 1000000))
-  pub workers_range : (1 ≤ workers) × (workers ≤ 64)
+  pub budget_most : budget ≤ BUDGET_LIMIT
+  pub pool_range : IfSome pool (λ n. (1 ≤ n) × (n ≤ POOL_LIMIT))
+  pub workers_range : (1 ≤ workers) × (workers ≤ WORKER_LIMIT)
 
 -- the ranges of the numbers of a near set
 pub record IsNearing (slack : ℤ) (depth limit : ℕ) : Type 0 where
@@ -40,7 +43,7 @@ pub record IsNearing (slack : ℤ) (depth limit : ℕ) : Type 0 where
 -- the numbers of a command are in their ranges, and a trial has one worker
 abbrev pub IsCommand : Command → Type 0
 IsCommand (Solve s) = IsSettings s
-IsCommand (Check workers) = (1 ≤ workers) × (workers ≤ 64)
+IsCommand (Check workers) = (1 ≤ workers) × (workers ≤ WORKER_LIMIT)
 IsCommand (Resume budget pool workers) = IsResuming budget pool workers
 IsCommand Polish = ⊤
 IsCommand (Near slack depth limit) = IsNearing slack depth limit

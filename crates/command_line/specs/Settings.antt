@@ -4,6 +4,9 @@ use Rattle.std.specs.Prelude.{List, [], ◌∷◌, length, drop, filter_map, cod
 use Rattle.std.specs.Prelude.{Some, None, option_map, option_and_then, unwrap_or}
 use Rattle.std.specs.List.{list_all, list_any, starts_with}
 use Rattle.text_lines.specs.Numbers.{digits_of}
+use Rattle.siting_definitions.specs.declared.TheConstants.{GAP_LIMIT, PPM_LIMIT, BUDGET_LIMIT}
+use Rattle.siting_definitions.specs.declared.TheConstants.{POOL_LIMIT, WORKER_LIMIT, SEED_LIMIT}
+use Rattle.siting_definitions.specs.declared.TheConstants.{POINT_LIMIT}
 use Rattle.siting_definitions.specs.declared.GapRule.{GapRule}
 use Rattle.siting_definitions.specs.declared.GapRule.TheVariants.{Fixed, Ppm}
 use Rattle.command_line.specs.declared.command.Settings.{Settings}
@@ -55,28 +58,28 @@ gap_rule_of None None = Some (Ppm 1000)
 abbrev pub gap_rule : List (List ℕ) → Option GapRule
 gap_rule words =
     option_and_then (λ gap. option_and_then (gap_rule_of gap)
-    (setting (codes "ppm=") 0 1000000 words))
-    (setting (codes "gap=") 0 (2 ^ 62) words)
+    (setting (codes "ppm=") 0 PPM_LIMIT words))
+    (setting (codes "gap=") 0 GAP_LIMIT words)
 
 -- how many leases may be given: 0 to 1,000,000, and 100,000 where the words don't say
 abbrev pub budget_of : List (List ℕ) → Option ℕ
-budget_of words = number_or 100000 (setting (codes "budget=") 0 1000000 words)
+budget_of words = number_or 100000 (setting (codes "budget=") 0 BUDGET_LIMIT words)
 
 -- how many squares may be open: 1 to 1,000,000, and 100,000 where the words don't say
 abbrev pub pool_of : List (List ℕ) → Option ℕ
-pool_of words = number_or 100000 (setting (codes "pool=") 1 1000000 words)
+pool_of words = number_or 100000 (setting (codes "pool=") 1 POOL_LIMIT words)
 
 -- how many workers there are: 1 to 64, and 1 where the words don't say
 abbrev pub workers_of : List (List ℕ) → Option ℕ
-workers_of words = number_or 1 (setting (codes "workers=") 1 64 words)
+workers_of words = number_or 1 (setting (codes "workers=") 1 WORKER_LIMIT words)
 
 -- how many leases may be given, which the words have to say
 abbrev pub required_budget_of : List (List ℕ) → Option ℕ
-required_budget_of words = required_number (setting (codes "budget=") 0 1000000 words)
+required_budget_of words = required_number (setting (codes "budget=") 0 BUDGET_LIMIT words)
 
 -- how many squares may be open, or nothing where the words don't say
 abbrev pub given_pool_of : List (List ℕ) → Option (Option ℕ)
-given_pool_of words = setting (codes "pool=") 1 1000000 words
+given_pool_of words = setting (codes "pool=") 1 POOL_LIMIT words
 
 -- how much more than the site a point of the near set may cost: 0 to 2^60, and 0 where the words
 -- don't say
@@ -93,11 +96,11 @@ limit_of words = number_or 100000 (setting (codes "limit=") 1 1000000 words)
 
 -- the seed, which the words have to say
 abbrev pub seed_of : List (List ℕ) → Option ℕ
-seed_of words = required_number (setting (codes "seed=") 0 2147483647 words)
+seed_of words = required_number (setting (codes "seed=") 0 SEED_LIMIT words)
 
 -- how many demand points are made, which the words have to say
 abbrev pub points_of : List (List ℕ) → Option ℕ
-points_of words = required_number (setting (codes "points=") 1 4096 words)
+points_of words = required_number (setting (codes "points=") 1 POINT_LIMIT words)
 
 -- the settings of these values
 abbrev pub settings_with : GapRule → ℕ → ℕ → ℕ → Settings

@@ -143,6 +143,7 @@ fn each_command_has_its_words(rt: HostRuntime) -> Result<(), Fail> {
         ("solve ppm=1000001", None, false),
         ("solve budget=1000001", None, false),
         ("solve pool=0", None, false),
+        ("solve pool=1000001", None, false),
         ("solve workers=0", None, false),
         ("solve workers=65", None, false),
         ("solve seed=1", None, false),

@@ -6,6 +6,8 @@
 ghost use Rattle.std.specs.Prelude.{◌≡◌, ◌^◌, ◌-◌, ◌<◌, ◌≤◌, [], ◌∷◌, ℕ, List, length};
 ghost use Rattle.std.specs.Prelude.{map, drop, IfSome, IfNone, Option, option_map};
 ghost use Rattle.std.specs.Prelude.{option_and_then, filter_map, Some, None};
+ghost use Rattle.siting_definitions.specs.declared.TheConstants.{GAP_LIMIT, PPM_LIMIT, POOL_LIMIT};
+ghost use Rattle.siting_definitions.specs.declared.TheConstants.{SEED_LIMIT, POINT_LIMIT};
 ghost use Rattle.siting_definitions.specs.declared.GapRule.TheVariants.{Fixed, Ppm};
 ghost use Rattle.text_lines.specs.Numbers.{digits_of};
 ghost use Rattle.command_line.specs.Command.{has_team, IsGapRule, IsSettings, IsCommand};
@@ -16,7 +18,9 @@ ghost use Rattle.command_line.specs.Words.{command_of};
 
 use crate::argv::Argv;
 use crate::command::{Command, Settings};
-use siting_definitions::GapRule;
+use siting_definitions::{
+    BUDGET_LIMIT, GAP_LIMIT, GapRule, POINT_LIMIT, POOL_LIMIT, PPM_LIMIT, SEED_LIMIT, WORKER_LIMIT,
+};
 use text_lines::{digits, says};
 
 /// The command that the words are: none exactly where they are no lawful command.
@@ -92,7 +96,7 @@ fn parse_check(words: &Argv) -> Option<Command>
     if !has_only(words, &[b"workers=".as_slice()]) {
         return None;
     }
-    let workers = parse_number_or(words, b"workers=", 1, 64, 1)?;
+    let workers = parse_number_or(words, b"workers=", 1, WORKER_LIMIT, 1)?;
     Some(Command::Check { workers })
 }
 
@@ -113,9 +117,9 @@ fn parse_resume(words: &Argv) -> Option<Command>
     ) {
         return None;
     }
-    let budget = parse_required_number(words, b"budget=", 0, 1_000_000)?;
+    let budget = parse_required_number(words, b"budget=", 0, BUDGET_LIMIT)?;
     let pool = parse_given_pool(words)?;
-    let workers = parse_number_or(words, b"workers=", 1, 64, 1)?;
+    let workers = parse_number_or(words, b"workers=", 1, WORKER_LIMIT, 1)?;
     Some(Command::Resume {
         budget,
         pool,
@@ -126,9 +130,9 @@ fn parse_resume(words: &Argv) -> Option<Command>
 /// How many squares may be open at a time, if the words say it.
 fn parse_given_pool(words: &Argv) -> Option<Option<u32>>
     ensures value { result ≡ settings.given_pool_of (drop 1 words.now) }
-    ensures within { IfSome result (λ pool. IfSome pool (λ n. (1 ≤ n) × (n ≤ 1000000))) }
+    ensures within { IfSome result (λ pool. IfSome pool (λ n. (1 ≤ n) × (n ≤ POOL_LIMIT))) }
 {
-    match parse_setting(words, b"pool=", 1, 1_000_000)? {
+    match parse_setting(words, b"pool=", 1, u64::from(POOL_LIMIT))? {
         None => Some(None),
         Some(number) => Some(Some(number as u32)),
     }
@@ -325,15 +329,15 @@ fn parse_gap(words: &Argv) -> Option<GapRule>
     ensures value { result ≡ settings.gap_rule (drop 1 words.now) }
     ensures within { IfSome result IsGapRule }
 {
-    let gap = parse_setting(words, b"gap=", 0, 1 << 62)?;
-    let ppm = parse_setting(words, b"ppm=", 0, 1_000_000)?;
+    let gap = parse_setting(words, b"gap=", 0, GAP_LIMIT)?;
+    let ppm = parse_setting(words, b"ppm=", 0, u64::from(PPM_LIMIT))?;
     gap_rule_of(gap, ppm)
 }
 
 /// The rule for the gap, of a gap and of a ratio in millionths.
 fn gap_rule_of(gap: Option<u64>, ppm: Option<u64>) -> Option<GapRule>
-    requires gap { IfSome gap (λ n. n ≤ 2 ^ 62) }
-    requires ppm { IfSome ppm (λ n. n ≤ 1000000) }
+    requires gap { IfSome gap (λ n. n ≤ GAP_LIMIT) }
+    requires ppm { IfSome ppm (λ n. n ≤ PPM_LIMIT) }
     ensures value { result ≡ gap_rule_of gap ppm }
     ensures within { IfSome result IsGapRule }
 {
@@ -352,9 +356,9 @@ fn parse_settings(words: &Argv) -> Option<Settings>
     ensures within { IfSome result IsSettings }
 {
     let gap = parse_gap(words)?;
-    let budget = parse_number_or(words, b"budget=", 0, 1_000_000, 100_000)?;
-    let pool = parse_number_or(words, b"pool=", 1, 1_000_000, 100_000)?;
-    let workers = parse_number_or(words, b"workers=", 1, 64, 1)?;
+    let budget = parse_number_or(words, b"budget=", 0, BUDGET_LIMIT, 100_000)?;
+    let pool = parse_number_or(words, b"pool=", 1, POOL_LIMIT, 100_000)?;
+    let workers = parse_number_or(words, b"workers=", 1, WORKER_LIMIT, 1)?;
     Some(Settings {
         gap,
         budget,
@@ -389,15 +393,15 @@ fn parse_required_number(words: &Argv, name: &[u8], low: u32, high: u32) -> Opti
 /// Where the generator begins.
 fn parse_seed(words: &Argv) -> Option<u32>
     ensures value { result ≡ settings.seed_of (drop 1 words.now) }
-    ensures within { IfSome result (λ n. n ≤ 2147483647) }
+    ensures within { IfSome result (λ n. n ≤ SEED_LIMIT) }
 {
-    parse_required_number(words, b"seed=", 0, 2_147_483_647)
+    parse_required_number(words, b"seed=", 0, SEED_LIMIT)
 }
 
 /// How many points.
 fn parse_points(words: &Argv) -> Option<u32>
     ensures value { result ≡ settings.points_of (drop 1 words.now) }
-    ensures within { IfSome result (λ n. (1 ≤ n) × (n ≤ 4096)) }
+    ensures within { IfSome result (λ n. (1 ≤ n) × (n ≤ POINT_LIMIT)) }
 {
-    parse_required_number(words, b"points=", 1, 4096)
+    parse_required_number(words, b"points=", 1, POINT_LIMIT as u32)
 }

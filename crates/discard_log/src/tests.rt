@@ -28,6 +28,17 @@ fn nodes_in_any_order(rt: HostRuntime) -> Result<(), Fail> {
         });
     }
     assert_eq!(rt; log.spare(), 0);
+    assert!(rt; log.nodes().len() > 2);
+    log.remark(2, Mark::Shut);
+    let shut = log.nodes().get(2);
+    assert_eq!(rt;
+        shut.copied(),
+        Some(Node {
+            square: root,
+            mark: Mark::Shut
+        })
+    );
+    log.remark(2, Mark::Bounded(0));
     let mut list = log.in_preorder(root);
     for (index, node) in list.nodes().iter().enumerate() {
         assert_eq!(rt; node.mark, Mark::Bounded(index as i64));

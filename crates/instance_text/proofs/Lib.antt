@@ -5,5 +5,6 @@ mod Built
 mod Written
 pub mod ReadLawful
 mod TextRows
+mod FirstFaults
 mod CutTexts
 pub mod InstanceLengths

@@ -111,14 +111,14 @@ none_left {X = X} before all says = none says.more says.read says.whole
 
 -- ---- the words that begin rows
 -- none of the words of this format
-record IsOther (word : List ℕ) : Type 0 where
-  kind : bytes_eq word (codes "kind") ≡ false
-  point : bytes_eq word (codes "point") ≡ false
-  permit : bytes_eq word (codes "permit") ≡ false
-  forbid : bytes_eq word (codes "forbid") ≡ false
-  end : bytes_eq word (codes "end") ≡ false
+pub record IsOther (word : List ℕ) : Type 0 where
+  pub kind : bytes_eq word (codes "kind") ≡ false
+  pub point : bytes_eq word (codes "point") ≡ false
+  pub permit : bytes_eq word (codes "permit") ≡ false
+  pub forbid : bytes_eq word (codes "forbid") ≡ false
+  pub end : bytes_eq word (codes "end") ≡ false
 
-abbrev WordCase : List ℕ → Type 0
+abbrev pub WordCase : List ℕ → Type 0
 WordCase word =
     (word ≡ codes "kind") ⊎ ((word ≡ codes "point") ⊎ ((word ≡ codes "permit") ⊎ ((word ≡ codes "forbid") ⊎ ((word ≡ codes "end") ⊎ IsOther word))))
 
@@ -131,7 +131,7 @@ is_or {T = T} word name other = by_test (cases_Bool (bytes_eq word name))
     by_test (inr differs) = inr (other differs)
 
 -- each word is one of these
-word_case : (word : List ℕ) → WordCase word
+pub word_case : (word : List ℕ) → WordCase word
 word_case word =
     is_or word (codes "kind") (λ kind.
     is_or word (codes "point") (λ point.

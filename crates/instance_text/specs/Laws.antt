@@ -6,6 +6,7 @@ use Rattle.siting_definitions.specs.Line.{line_text}
 use Rattle.instance_text.specs.declared.faults.InstanceFault.{InstanceFault}
 use Rattle.instance_text.specs.Reading.{reading}
 use Rattle.instance_text.specs.InstanceTexts.{IsInstanceText}
+use Rattle.instance_text.specs.FirstFault.{IsFirstFault}
 
 -- the canonical text of an instance is read as that instance
 abbrev pub TextReadsBack : Type 0
@@ -23,6 +24,11 @@ TextKeepsLimits = (bytes : List ℕ) (i : Instance) → reading bytes ≡ Ok i �
 -- a text is read as an instance exactly where its rows say that instance
 abbrev pub TextSaysItsRows : Type 0
 TextSaysItsRows = (bytes : List ℕ) (i : Instance) → (reading bytes ≡ Ok i) ↔ IsInstanceText bytes i
+
+-- a text is refused with a fault exactly where that is its first one
+abbrev pub TextHasItsFirstFault : Type 0
+TextHasItsFirstFault =
+    (bytes : List ℕ) (fault : InstanceFault) → (reading bytes ≡ Err fault) ↔ IsFirstFault bytes fault
 
 -- a canonical text that lacks its last line feed alone is read as the same instance
 abbrev pub UnendedTextReadsBack : Type 0

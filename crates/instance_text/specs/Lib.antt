@@ -1,8 +1,9 @@
-pub mod Phase
-pub mod Rows
-pub mod Reading
-pub mod KeepsLimits
-pub mod Outcome
+pub mod FirstFault
 pub mod InstanceTexts
+pub mod KeepsLimits
 pub mod Laws
+pub mod Outcome
+pub mod Phase
+pub mod Reading
+pub mod Rows
 pub mod Written

@@ -12,7 +12,7 @@ ghost use Rattle.instance_text.specs.declared.faults.TheConstants.{NO_END, AFTER
 ghost use Rattle.instance_text.specs.Laws.{TextReadsBack, TextsDiffer, TextKeepsLimits};
 ghost use Rattle.instance_text.specs.Laws.{TextSaysItsRows, CanonicalTextIsShort};
 ghost use Rattle.instance_text.specs.Laws.{CanonicalLinesAreShort, UnendedTextReadsBack};
-ghost use Rattle.instance_text.specs.Laws.{CutTextIsRefused};
+ghost use Rattle.instance_text.specs.Laws.{CutTextIsRefused, TextHasItsFirstFault};
 
 /// The canonical text of an instance within the limits is an instance text of that instance, and so
 /// of no other.
@@ -35,6 +35,12 @@ pub fn text_keeps_limits()
 /// instance in any order, and the end.
 pub fn text_says_its_rows()
     ensures { TextSaysItsRows }
+{}
+
+/// A text is refused with a fault exactly where that is its first one, by its lines as they stand:
+/// each is judged by the lines before it.
+pub fn text_has_its_first_fault()
+    ensures { TextHasItsFirstFault }
 {}
 
 /// A canonical text that is cut short: without its last line feed it is read as the same instance,

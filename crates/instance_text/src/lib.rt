@@ -18,8 +18,8 @@ pub use faults::{
     TOO_MANY_POLYGONS, TOO_MANY_VERTICES, TWO_KINDS, WEIGHT_SUM, ZERO_WEIGHT,
 };
 pub use laws::{
-    canonical_texts_are_short, cut_texts_are_refused, faults_have_their_numbers, text_keeps_limits,
-    text_reads_back, text_says_its_rows, texts_differ,
+    canonical_texts_are_short, cut_texts_are_refused, faults_have_their_numbers,
+    text_has_its_first_fault, text_keeps_limits, text_reads_back, text_says_its_rows, texts_differ,
 };
 pub use read::read_instance;
 pub use write::write_instance;

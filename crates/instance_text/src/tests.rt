@@ -72,6 +72,44 @@ fn the_first_fault_of_the_first_line_with_one(rt: HostRuntime) {
     }
 }
 
+/// Each number of an instance at its limit and one past it. The counts and the sum of the weights
+/// are tried where the program is.
+#[test]
+fn each_number_at_its_limit(rt: HostRuntime) -> Result<(), Fail> {
+    // What stands in the lines of the point and of the polygon, and the first fault.
+    let cases = [
+        (
+            "1000000 -1000000 16000000 4000000",
+            "-1000000 1000000",
+            (0, 0),
+        ),
+        ("-1000000 1000000 -16000000 1", "1000000 -1000000", (0, 0)),
+        ("1000001 0 1 1", "0 9", (4, 3)),
+        ("-1000001 0 1 1", "0 9", (4, 3)),
+        ("0 1000001 1 1", "0 9", (4, 3)),
+        ("0 -1000001 1 1", "0 9", (4, 3)),
+        ("0 0 16000001 1", "0 9", (4, 3)),
+        ("0 0 -16000001 1", "0 9", (4, 3)),
+        ("0 0 1 4000001", "0 9", (4, 3)),
+        ("0 0 1 0", "0 9", (4, 3)),
+        ("0 0 1 1", "1000001 9", (4, 4)),
+        ("0 0 1 1", "-1000001 9", (4, 4)),
+        ("0 0 1 1", "0 1000001", (4, 4)),
+        ("0 0 1 1", "0 -1000001", (4, 4)),
+    ];
+    for (point, vertex, fault) in cases {
+        let text = format!(in rt.alloc();
+            "siting 2\nkind sum\npoint {point}\npermit 1 1 2 1 {vertex}\nend\n"
+        )?;
+        assert_eq!(rt;
+            fault_of(rt.alloc(), text.as_bytes()),
+            fault,
+            "{point}, {vertex}"
+        );
+    }
+    Ok(())
+}
+
 #[test]
 fn faults_of_the_end_and_of_cutoffs(rt: HostRuntime) {
     let cases: [(&[u8], (u8, u64)); 12] = [

@@ -1,6 +1,6 @@
 //! The lines of a batch, checked in parts at the same time.
 
-ghost use Rattle.std.specs.Prelude.{◌≡◌, ◌+◌, ◌<◌, ◌≤◌, ◌^◌, IfOk, length, map};
+ghost use Rattle.std.specs.Prelude.{◌≡◌, ◌+◌, ◌*◌, ◌/◌, ◌%◌, ◌<◌, ◌≤◌, ◌^◌, min, IfOk, length, map};
 ghost use Rattle.std.specs.Result.{result_err};
 ghost use denote.Param.Send.{IsSync};
 ghost use Rattle.siting_definitions.specs.Sites.{opening_cost};
@@ -63,12 +63,14 @@ pub(crate) fn check_parts<R: Threads + Sync, G: CheckGate + Sync>(
     joined(one, other)
 }
 
-/// How many of so many lines the first `low` of `parts` parts have.
+/// How many of so many lines the first `low` of `parts` parts have, of which each has as many as the
+/// others or, where it is one of the first, one more.
 fn lines_of(lines: usize, parts: usize, low: usize) -> usize
     requires lines { lines ≤ 65536 }
     requires parts { low < parts }
     requires few { parts < 2 ^ 32 }
-    ensures { result ≤ lines }
+    ensures value { result ≡ low * (lines / parts) + min low (lines % parts) }
+    ensures within { result ≤ lines }
 {
     low * (lines / parts) + low.min(lines % parts)
 }

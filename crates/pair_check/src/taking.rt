@@ -1,6 +1,7 @@
 //! Taking lines into a batch, and checking them.
 
-ghost use Rattle.std.specs.Prelude.{◌≡◌, ◌+◌, ◌<◌, ◌≤◌, ◌^◌, ◌++◌, [], ◌∷◌, None, Some, IsTrue};
+ghost use Rattle.std.specs.Prelude.{◌≡◌, ◌+◌, ◌<◌, ◌≤◌, ◌^◌, ◌++◌, [], ◌∷◌, None, Some};
+ghost use Rattle.std.specs.Prelude.{◌&&◌, not, nat_eq, nat_lt};
 ghost use Rattle.std.specs.Prelude.{slice_get, vec_len};
 ghost use Rattle.certificate.specs.declared.reader.Item.TheVariants.{End as EndItem};
 ghost use Rattle.certificate.specs.declared.reader.Item.TheVariants.{Node as NodeItem};
@@ -74,7 +75,9 @@ impl Batch {
         ensures tally { self.new.tally ≡ self.old.tally }
         ensures walk { CanStep self.old.walk (marks.is_split mark)
             → self.new.walk ≡ squares_after self.old.walk (marks.is_split mark) }
-        ensures few { IsTrue result → vec_len self.new.nodes < 65536 }
+        ensures more { result
+            ≡ (not (marks.is_split mark && nat_eq square.level 0)
+            && nat_lt (vec_len self.new.nodes) 65536) }
     {
         match self.nodes.push(Node { square, mark }) {
             Ok(()) => {}

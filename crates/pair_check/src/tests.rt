@@ -318,13 +318,18 @@ impl CheckGate for Record {
 
 #[test]
 fn each_part_with_a_line_passes_once(rt: HostRuntime) -> Result<(), Fail> {
-    for (workers, parts) in [(1, 0x1), (2, 0x11), (3, 0x111), (5, 0x11111), (8, 0x11111)] {
-        let gate = Record {
-            parts: AtomicU64::new(0),
-        };
-        let mut source = source_of(rt.alloc(), FIVE_SQUARES, 0)?;
-        assert!(rt; check_with(&rt, rt.alloc(), &mut source, workers, &gate).is_ok());
-        assert_eq!(rt; gate.parts.load(Ordering::SeqCst), parts);
+    let wrong = lines_of(rt.alloc(), FIVE_SQUARES, 22, &[(19, "O 131073\n")])?;
+    // A part passes before it is checked, so also where it has a fault.
+    for (text, accepted) in [(FIVE_SQUARES, true), (wrong.as_str(), false)] {
+        for (workers, parts) in [(1, 0x1), (2, 0x11), (3, 0x111), (5, 0x11111), (8, 0x11111)] {
+            let gate = Record {
+                parts: AtomicU64::new(0),
+            };
+            let mut source = source_of(rt.alloc(), text, 0)?;
+            let verdict = check_with(&rt, rt.alloc(), &mut source, workers, &gate);
+            assert_eq!(rt; verdict.is_ok(), accepted);
+            assert_eq!(rt; gate.parts.load(Ordering::SeqCst), parts);
+        }
     }
     Ok(())
 }

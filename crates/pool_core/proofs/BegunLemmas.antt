@@ -281,7 +281,7 @@ mark_bounded : (i : Instance) (gap : ℤ) (u : Option ℤ) (s : Square) (m : Mar
 mark_bounded i gap u s (Split v) h = refl
 mark_bounded i gap u s Shut h = refl
 mark_bounded i gap u s (Bounded c) h = ap (with_bound (fine_of i s)) h ∙ leaf_bounded i gap u s ∙ sym h
-mark_bounded i gap u s (Floor b) h = ap (with_bound (fine_of i s)) h ∙ leaf_bounded i gap u s ∙ sym h
+mark_bounded i gap u s (Floor b) h = refl
 mark_bounded i gap u s (Left b) h = refl
 
 map-same : {X : Type 0} (f : X → X) (xs : List X) → All (λ x. f x ≡ x) xs → map f xs ≡ xs

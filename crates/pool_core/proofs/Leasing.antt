@@ -1,5 +1,5 @@
 -- A waiting entry becomes leased: the step, and what a pool keeps.
-use Rattle.std.proofs.Common.{◌≡◌, ℕ, ◌+◌, ◌<◌, ◌≤◌, ◌≤ℤ◌, List, [], ◌∷◌, ◌++◌, map, vec_capacity, take, None, refl, sym, ap, ◌∙◌, subst, arith}
+use Rattle.std.proofs.Common.{◌≡◌, ℕ, ◌+◌, ◌<◌, ◌≤◌, ◌≤ℤ◌, List, [], ◌∷◌, ◌++◌, map, length, vec_capacity, take, drop, None, refl, sym, ap, ◌∙◌, subst, arith}
 use Rattle.std.specs.List.{All, Contains}
 use Rattle.std.specs.List.Sorted.{IsPermutation}
 use Rattle.std.proofs.lemmas.List.Elements.{All-push}
@@ -11,7 +11,7 @@ use Rattle.pool_core.specs.declared.pool.Pool.TheInside.{Inside}
 use Rattle.pool_core.specs.Job.{Job, IsJob}
 use Rattle.pool_core.specs.State.{State, Beginning, split_count}
 use Rattle.pool_core.specs.Machine.{Leases}
-use Rattle.pool_core.specs.Logged.{IsRaisedRight, bounded_node}
+use Rattle.pool_core.specs.Logged.{IsRaisedRight, bounded_node, settled_bounds}
 use Rattle.pool_core.specs.Pool.{PoolFits, state_of}
 use Rattle.pool_core.proofs.CountsKept.{counts_lease, leaves_waiting, size_lease}
 use Rattle.pool_core.proofs.LoggedLemmas.{right_taken}
@@ -28,7 +28,8 @@ pub record IsLeasing (e : Entry) (a b : Inside) : Type 0 where
   pub leases : b.leases ≡ a.leases + 1
   pub job : b.job ≡ a.job
   pub log : b.log ≡ a.log
-  pub history : b.history.nodes ≡ a.history.nodes
+  pub fine_bounds : b.fine_bounds.items ≡ a.fine_bounds.items
+  pub bounds_capacity : vec_capacity b.fine_bounds ≡ vec_capacity a.fine_bounds
   pub kept : b.kept ≡ a.kept
   pub stop : b.stop ≡ a.stop
   pub begun_nodes : b.begun_nodes ≡ a.begun_nodes
@@ -57,10 +58,10 @@ leasing_step e a b h =
       leased = rw h.leased last;
       leases = h.leases;
       job = h.job;
-      nodes = h.history;
+      nodes = ap (λ (l : LogView). l.nodes) h.log;
       kept = h.kept;
       stop = h.stop;
-      beginning = beginning_is b.history.nodes a.history.nodes b.begun_nodes a.begun_nodes b.begun_raised a.begun_raised b.begun_leases a.begun_leases h.history h.begun_nodes h.begun_raised h.begun_leases;
+      beginning = beginning_is b.log.nodes a.log.nodes b.begun_nodes a.begun_nodes b.begun_raised a.begun_raised b.begun_leases a.begun_leases (ap (λ (l : LogView). l.nodes) h.log) h.begun_nodes h.begun_raised h.begun_leases;
     }
 
 -- and leaves a pool
@@ -72,14 +73,20 @@ leasing_fits e a b h fits =
     let pool : b.job.pool ≡ a.job.pool = ap (λ (j : Job). j.pool) h.job in
     let budget : b.job.budget ≡ a.job.budget = ap (λ (j : Job). j.budget) h.job in
     let room : b.log.spare ≡ a.log.spare = ap (λ (l : LogView). l.spare) h.log in
-    let begun_splits : split_count (take b.begun_nodes b.history.nodes) ≡ split_count (take a.begun_nodes a.history.nodes) = ap (λ n. split_count (take n b.history.nodes)) h.begun_nodes ∙ ap (λ (ns : List Node). split_count (take a.begun_nodes ns)) h.history in
+    let nodes : b.log.nodes ≡ a.log.nodes = ap (λ (l : LogView). l.nodes) h.log in
+    let begun_same : take b.begun_nodes b.log.nodes ≡ take a.begun_nodes a.log.nodes = ap (λ n. take n b.log.nodes) h.begun_nodes ∙ ap (λ (ns : List Node). take a.begun_nodes ns) nodes in
+    let begun_splits : split_count (take b.begun_nodes b.log.nodes) ≡ split_count (take a.begun_nodes a.log.nodes) = ap split_count begun_same in
+    let new_same : drop b.begun_nodes b.log.nodes ≡ drop a.begun_nodes a.log.nodes = ap (λ n. drop n b.log.nodes) h.begun_nodes ∙ ap (λ (ns : List Node). drop a.begun_nodes ns) nodes in
     let i = a.job.instance in
     let out = right_taken i e a.waiting.entries b.waiting.entries fits.waiting_raised h.waiting in
-    let logged : b.log.nodes ≡ map (bounded_node i) b.history.nodes = ap (λ (l : LogView). l.nodes) h.log ∙ fits.logged ∙ ap (map (bounded_node i)) (sym h.history) in
+    let bounds : b.fine_bounds.items ≡ settled_bounds i (drop b.begun_nodes b.log.nodes) = h.fine_bounds ∙ fits.bounds ∙ ap (settled_bounds i) (sym new_same) in
+    let count : length b.fine_bounds.items ≡ length a.fine_bounds.items = ap length h.fine_bounds in
     let leased : All (IsRaisedRight i) b.leased.items = subst (All (IsRaisedRight i)) (sym h.leased) (All-push (IsRaisedRight i) a.leased.items e fits.leased_raised out.0) in
     record {
       job = subst IsJob (sym h.job) fits.job;
-      logged = subst (λ (j : Job). b.log.nodes ≡ map (bounded_node j.instance) b.history.nodes) (sym h.job) logged;
+      bounds = subst (λ (j : Job). b.fine_bounds.items ≡ settled_bounds j.instance (drop b.begun_nodes b.log.nodes)) (sym h.job) bounds;
+      begun_bounds = subst (λ (j : Job). map (bounded_node j.instance) (take b.begun_nodes b.log.nodes) ≡ take b.begun_nodes b.log.nodes) (sym h.job) (subst (λ (ns : List Node). map (bounded_node i) ns ≡ ns) (sym begun_same) fits.begun_bounds);
+      bounds_room = omega (arith, fits.bounds_room, count, h.bounds_capacity, more.leased, h.leases, h.budget);
       waiting_raised = subst (λ (j : Job). All (IsRaisedRight j.instance) b.waiting.entries) (sym h.job) out.1;
       leased_raised = subst (λ (j : Job). All (IsRaisedRight j.instance) b.leased.items) (sym h.job) leased;
       counts = counts;

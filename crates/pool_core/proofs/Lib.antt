@@ -12,3 +12,4 @@ mod Returning
 mod Beginnings
 mod Resumed
 mod Walks
+mod Listed

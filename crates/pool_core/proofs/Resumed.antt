@@ -1,7 +1,8 @@
 -- A pool that begins from the nodes of a tree: its state, and what a pool keeps.
-use Rattle.std.proofs.Common.{◌≡◌, ℕ, suc, ◌+◌, ◌-◌, ◌*◌, true, List, [], ◌∷◌, map, filter, length, count_by, vec_capacity, take, None, refl, sym, ap, ◌∙◌, subst, arith}
+use Rattle.std.proofs.Common.{◌≡◌, ℕ, suc, ◌+◌, ◌-◌, ◌*◌, true, List, [], ◌∷◌, map, filter, length, count_by, vec_capacity, take, drop, None, refl, sym, ap, ◌∙◌, subst, arith}
 use Rattle.std.specs.List.{All}
 use Rattle.std.specs.List.Sorted.{IsPermutation}
+use Rattle.std.proofs.Math.ListN.{drop_of_length-le}
 use Rattle.std.proofs.Math.Seq.{take-length}
 use Rattle.std.proofs.lemmas.List.{length-map}
 use Rattle.std.proofs.lemmas.List.Elements.{All-nil}
@@ -19,7 +20,7 @@ use Rattle.pool_core.specs.declared.pool.Pool.TheInside.{Inside}
 use Rattle.pool_core.specs.Job.{Job, IsJob, job_root}
 use Rattle.pool_core.specs.State.{raised_count, split_count}
 use Rattle.pool_core.specs.Begun.{IsBegunFrom, IsResumable, closed_nodes, is_left_open, left_count, left_of}
-use Rattle.pool_core.specs.Logged.{IsRaisedRight, bounded_node}
+use Rattle.pool_core.specs.Logged.{IsRaisedRight, bounded_node, settled_bounds}
 use Rattle.pool_core.specs.Pool.{PoolFits, state_of}
 use Rattle.pool_core.proofs.BegunLemmas.{begun_bounded, begun_right, waiting_count, closed_length}
 use Rattle.pool_core.proofs.CountsKept.{count_by-cons}
@@ -70,7 +71,8 @@ pub record IsBegun (j : Job) (ns : List Node) (leases : ℕ) (b : Inside) : Type
   pub leased : b.leased.items ≡ []
   pub capacity : vec_capacity b.leased ≡ j.pool
   pub nodes : b.log.nodes ≡ closed_nodes ns
-  pub history : b.history.nodes ≡ closed_nodes ns
+  pub fine_bounds : b.fine_bounds.items ≡ []
+  pub bounds_capacity : vec_capacity b.fine_bounds ≡ j.budget - leases
   pub log_room : length b.log.nodes + b.log.spare ≡ length ns + 4 * (j.budget - leases)
   pub leases_are : b.leases ≡ leases
   pub kept : b.kept ≡ 0
@@ -82,11 +84,11 @@ pub record IsBegun (j : Job) (ns : List Node) (leases : ℕ) (b : Inside) : Type
 all_taken : (n : ℕ) (ms ns : List Node) → n ≡ length ns → ms ≡ ns → take n ms ≡ ns
 all_taken n ms ns e f = ap (take n) f ∙ ap (λ k. take k ns) e ∙ take-length ns
 
-begun_nodes-are : (j : Job) (ns : List Node) (leases : ℕ) (b : Inside) → IsBegun j ns leases b → take b.begun_nodes b.history.nodes ≡ closed_nodes ns
+begun_nodes-are : (j : Job) (ns : List Node) (leases : ℕ) (b : Inside) → IsBegun j ns leases b → take b.begun_nodes b.log.nodes ≡ closed_nodes ns
 begun_nodes-are j ns leases b h =
     let left : length b.waiting.entries ≡ left_count ns = waiting_count ns b.waiting.entries h.waiting in
     let count : b.begun_nodes ≡ length (closed_nodes ns) = omega (arith, closed_length ns, h.begun_nodes) in
-    all_taken b.begun_nodes b.history.nodes (closed_nodes ns) count h.history
+    all_taken b.begun_nodes b.log.nodes (closed_nodes ns) count h.nodes
 
 -- what `begin_from` makes shows as a state that begins from the nodes
 pub begun_state : (j : Job) (ns : List Node) (leases : ℕ) (b : Inside) → IsBegun j ns leases b → IsBegunFrom j ns leases (state_of b)
@@ -95,7 +97,7 @@ begun_state j ns leases b h = record {
   waiting = h.waiting;
   raised = h.raised;
   leased = h.leased;
-  nodes = h.history;
+  nodes = h.nodes;
   leases_are = h.leases_are;
   kept = h.kept;
   going = h.stop;
@@ -110,19 +112,22 @@ begun_fits j ns leases b lawful may h =
     let pool : b.job.pool ≡ j.pool = ap (λ (j : Job). j.pool) h.job in
     let budget : b.job.budget ≡ j.budget = ap (λ (j : Job). j.budget) h.job in
     let left : length b.waiting.entries ≡ left_count ns = waiting_count ns b.waiting.entries h.waiting in
+    let parts = closed_length ns in
     let raised : raised_count b.waiting.entries ≡ length b.waiting.entries = all_raised b.waiting.entries h.raised in
     let logged : length b.log.nodes ≡ length (closed_nodes ns) = ap length h.nodes in
-    let closed : length b.history.nodes ≡ length (closed_nodes ns) = ap length h.history in
-    let splits : split_count b.history.nodes ≡ split_count ns = ap split_count h.history ∙ closed_splits ns in
-    let begun : length (take b.begun_nodes b.history.nodes) ≡ length (closed_nodes ns) = ap length (begun_nodes-are j ns leases b h) in
-    let begun_splits : split_count (take b.begun_nodes b.history.nodes) ≡ split_count ns = ap split_count (begun_nodes-are j ns leases b h) ∙ closed_splits ns in
+    let splits : split_count b.log.nodes ≡ split_count ns = ap split_count h.nodes ∙ closed_splits ns in
+    let begun : length (take b.begun_nodes b.log.nodes) ≡ length (closed_nodes ns) = ap length (begun_nodes-are j ns leases b h) in
+    let begun_splits : split_count (take b.begun_nodes b.log.nodes) ≡ split_count ns = ap split_count (begun_nodes-are j ns leases b h) ∙ closed_splits ns in
+    let none_new : drop b.begun_nodes b.log.nodes ≡ [] = drop_of_length-le b.log.nodes (omega (arith, h.begun_nodes, left, parts, logged)) in
+    let no_bounds : length b.fine_bounds.items ≡ 0 = ap length h.fine_bounds in
     let none_out : length b.leased.items ≡ 0 = ap length h.leased in
     let none_raised : raised_count b.leased.items ≡ 0 = ap raised_count h.leased in
     let size : length ns ≡ 1 + 4 * split_count ns = nodes_size may.tree.0 (job_root j) ns may.tree.1 in
-    let parts = closed_length ns in
     record {
       job = subst IsJob (sym h.job) lawful;
-      logged = subst (λ (k : Job). b.log.nodes ≡ map (bounded_node k.instance) b.history.nodes) (sym h.job) (h.nodes ∙ sym (begun_bounded j ns leases may) ∙ ap (map (bounded_node j.instance)) (sym h.history));
+      bounds = h.fine_bounds ∙ sym (ap (settled_bounds b.job.instance) none_new);
+      begun_bounds = subst (λ (k : Job). map (bounded_node k.instance) (take b.begun_nodes b.log.nodes) ≡ take b.begun_nodes b.log.nodes) (sym h.job) (subst (λ (ms : List Node). map (bounded_node j.instance) ms ≡ ms) (sym (begun_nodes-are j ns leases b h)) (begun_bounded j ns leases may));
+      bounds_room = omega (arith, no_bounds, none_out, h.bounds_capacity, h.leases_are);
       waiting_raised = subst (λ (k : Job). All (IsRaisedRight k.instance) b.waiting.entries) (sym h.job) (begun_right j ns leases b.waiting.entries may h.waiting);
       leased_raised = subst (All (IsRaisedRight b.job.instance)) (sym h.leased) (All-nil (IsRaisedRight b.job.instance));
       counts = record {

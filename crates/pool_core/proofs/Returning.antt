@@ -1,9 +1,10 @@
 -- A leased entry comes back: the step, and what a pool keeps.
-use Rattle.std.proofs.Common.{◌≡◌, ℕ, zero, suc, ◌+◌, ◌<◌, ◌≤◌, nat_lt, ◌==◌, Bool, true, false, cond, ◌&&◌, ◌||◌, is_some, ℤ, ◌+ℤ◌, List, [], ◌∷◌, ◌++◌, map, length, vec_capacity, take, Option, Some, refl, sym, ap, ◌∙◌, subst, arith}
+use Rattle.std.proofs.Common.{◌≡◌, ℕ, zero, suc, ◌+◌, ◌<◌, ◌≤◌, nat_lt, ◌==◌, Bool, true, false, cond, ◌&&◌, ◌||◌, is_some, ℤ, ◌+ℤ◌, List, [], ◌∷◌, ◌++◌, map, length, vec_capacity, take, drop, Option, Some, refl, sym, ap, ◌∙◌, subst, arith}
 use Rattle.std.specs.List.{All}
 use Rattle.std.specs.List.Sorted.{IsPermutation}
+use Rattle.std.proofs.lemmas.List.Sorted.{length_permutation}
 use Rattle.std.proofs.lemmas.Bool.{cond_both, false≢true}
-use Rattle.std.proofs.lemmas.List.{map-append, take-append-le}
+use Rattle.std.proofs.lemmas.List.{drop-append-le, length-append, take-append-le}
 use Rattle.std.proofs.lemmas.List.Elements.{All-nil, All-cons}
 use Rattle.std.proofs.lemmas.List.Sums.{count_by-le-length}
 use Rattle.siting_definitions.specs.Excluded.{is_excluded}
@@ -12,6 +13,7 @@ use Rattle.bound_heap.specs.declared.entry.Entry.{Entry}
 use Rattle.discard_log.specs.declared.node.Node.{Node}
 use Rattle.pool_core.specs.declared.stop.Stop.{Stop}
 use Rattle.pool_core.specs.declared.stop.Stop.TheVariants.{PoolFull}
+use Rattle.pool_core.specs.declared.verdict.Bounds.{Bounds}
 use Rattle.pool_core.specs.declared.verdict.Finding.{Finding}
 use Rattle.pool_core.specs.declared.verdict.Finding.TheVariants.{Excluded, Bounded, Raise, Part, Floor}
 use Rattle.pool_core.specs.declared.pool.Pool.TheInside.{Inside}
@@ -19,11 +21,11 @@ use Rattle.pool_core.specs.Job.{Job, IsJob}
 use Rattle.pool_core.specs.State.{State, open_count, split_count}
 use Rattle.pool_core.specs.Verdict.{bounds_of, fine_in, finding_of, is_part}
 use Rattle.pool_core.specs.Machine.{Returns, entries_from, first_stop, is_kept, nodes_from}
-use Rattle.pool_core.specs.Logged.{IsRaisedRight, bounded_node}
+use Rattle.pool_core.specs.Logged.{IsRaisedRight, bounded_node, settled_bounds}
 use Rattle.pool_core.specs.Pool.{PoolFits, state_of}
 use Rattle.pool_core.proofs.CountsKept.{IsFreshRaise, Moves, counts_return, fresh_finding, moves, size_return}
 use Rattle.pool_core.proofs.Leasing.{beginning_is}
-use Rattle.pool_core.proofs.LoggedLemmas.{IsLoggedBy, logged-by, right_joined, right_taken}
+use Rattle.pool_core.proofs.LoggedLemmas.{IsKeptOf, few_bounds, kept-by, right_joined, right_taken, settled-append}
 
 -- What the code does with the fields of a pool where e comes back with the finding f; k says whether a part isn't made.
 pub record Did (e : Entry) (seen : Option ℤ) (f : Finding) (k : Bool) (a b : Inside) : Type 0 where
@@ -32,8 +34,9 @@ pub record Did (e : Entry) (seen : Option ℤ) (f : Finding) (k : Bool) (a b : I
   pub capacity : vec_capacity b.leased ≡ vec_capacity a.leased
   pub waiting : IsPermutation (cond k (e ∷ []) (entries_from e.square f) ++ a.waiting.entries) b.waiting.entries
   pub spare : b.waiting.spare + length (cond k (e ∷ []) (entries_from e.square f)) ≡ a.waiting.spare
-  pub nodes : b.history.nodes ≡ a.history.nodes ++ cond k [] (nodes_from e.square seen f)
-  pub logged : b.log.nodes ≡ a.log.nodes ++ map (bounded_node a.job.instance) (cond k [] (nodes_from e.square seen f))
+  pub nodes : b.log.nodes ≡ a.log.nodes ++ cond k [] (nodes_from e.square seen f)
+  pub bounds : b.fine_bounds.items ≡ a.fine_bounds.items ++ settled_bounds a.job.instance (cond k [] (nodes_from e.square seen f))
+  pub bounds_capacity : vec_capacity a.fine_bounds ≤ vec_capacity b.fine_bounds
   pub log_spare : b.log.spare + length (cond k [] (nodes_from e.square seen f)) ≡ a.log.spare
   pub kept : b.kept ≡ a.kept + cond k 1 0
   pub stop : b.stop ≡ cond k (first_stop a.stop (PoolFull (open_count (state_of a)))) a.stop
@@ -44,15 +47,15 @@ pub record Did (e : Entry) (seen : Option ℤ) (f : Finding) (k : Bool) (a b : I
   pub begun_leases : b.begun_leases ≡ a.begun_leases
 
 -- the nodes of the beginning stay
-begun_same : (e : Entry) (seen : Option ℤ) (f : Finding) (k : Bool) (a b : Inside) → Did e seen f k a b → PoolFits a → take a.begun_nodes b.history.nodes ≡ take a.begun_nodes a.history.nodes
+begun_same : (e : Entry) (seen : Option ℤ) (f : Finding) (k : Bool) (a b : Inside) → Did e seen f k a b → PoolFits a → take a.begun_nodes b.log.nodes ≡ take a.begun_nodes a.log.nodes
 begun_same e seen f k a b h fits =
-    ap (take a.begun_nodes) h.nodes ∙ take-append-le a.begun_nodes a.history.nodes (cond k [] (nodes_from e.square seen f)) fits.begun
+    ap (take a.begun_nodes) h.nodes ∙ take-append-le a.begun_nodes a.log.nodes (cond k [] (nodes_from e.square seen f)) fits.begun
 
 -- what the code does is a return
 pub did_step : (e : Entry) (seen : Option ℤ) (f : Finding) (k : Bool) (a b : Inside) → Did e seen f k a b → PoolFits a → Returns e seen f (state_of a) (state_of b)
 did_step e seen f k a b h fits =
     let same = begun_same e seen f k a b h fits in
-    let first = beginning_is b.history.nodes b.history.nodes b.begun_nodes a.begun_nodes b.begun_raised a.begun_raised b.begun_leases a.begun_leases refl h.begun_nodes h.begun_raised h.begun_leases in
+    let first = beginning_is b.log.nodes b.log.nodes b.begun_nodes a.begun_nodes b.begun_raised a.begun_raised b.begun_leases a.begun_leases refl h.begun_nodes h.begun_raised h.begun_leases in
     record {
       leased = h.leased;
       waiting = rw h.closed h.waiting;
@@ -84,14 +87,19 @@ did_fits e seen f k a b fresh right h fits =
     let splits : split_count added ≤ length added = count_by-le-length (λ (n : Node). is_split n.mark) added in
     let pool : b.job.pool ≡ a.job.pool = ap (λ (j : Job). j.pool) h.job in
     let budget : b.job.budget ≡ a.job.budget = ap (λ (j : Job). j.budget) h.job in
-    let begun_splits : split_count (take b.begun_nodes b.history.nodes) ≡ split_count (take a.begun_nodes a.history.nodes) = ap (λ n. split_count (take n b.history.nodes)) h.begun_nodes ∙ ap split_count (begun_same e seen f k a b h fits) in
+    let begun_splits : split_count (take b.begun_nodes b.log.nodes) ≡ split_count (take a.begun_nodes a.log.nodes) = ap (λ n. split_count (take n b.log.nodes)) h.begun_nodes ∙ ap split_count (begun_same e seen f k a b h fits) in
     let i = a.job.instance in
     let out = right_taken i e a.leased.items b.leased.items fits.leased_raised h.leased in
     let back : All (IsRaisedRight i) entries = cond_both k (e ∷ []) (entries_from e.square f) (All (IsRaisedRight i)) (λ _. All-cons (IsRaisedRight i) e [] out.0 (All-nil (IsRaisedRight i))) (λ _. right) in
-    let logged : b.log.nodes ≡ map (bounded_node i) b.history.nodes = h.logged ∙ ap (λ ns. ns ++ map (bounded_node i) added) fits.logged ∙ sym (map-append (bounded_node i) a.history.nodes added) ∙ ap (map (bounded_node i)) (sym h.nodes) in
+    let begun_kept : take b.begun_nodes b.log.nodes ≡ take a.begun_nodes a.log.nodes = ap (λ n. take n b.log.nodes) h.begun_nodes ∙ begun_same e seen f k a b h fits in
+    let new : drop b.begun_nodes b.log.nodes ≡ drop a.begun_nodes a.log.nodes ++ added = ap (λ n. drop n b.log.nodes) h.begun_nodes ∙ ap (drop a.begun_nodes) h.nodes ∙ drop-append-le a.begun_nodes a.log.nodes added fits.begun in
+    let bounds : b.fine_bounds.items ≡ settled_bounds i (drop b.begun_nodes b.log.nodes) = h.bounds ∙ ap (λ fs. fs ++ settled_bounds i added) fits.bounds ∙ sym (settled-append i (drop a.begun_nodes a.log.nodes) added) ∙ ap (settled_bounds i) (sym new) in
+    let count : length b.fine_bounds.items ≡ length a.fine_bounds.items + length (settled_bounds i added) = ap length h.bounds ∙ length-append a.fine_bounds.items (settled_bounds i added) in
     record {
       job = subst IsJob (sym h.job) fits.job;
-      logged = subst (λ (j : Job). b.log.nodes ≡ map (bounded_node j.instance) b.history.nodes) (sym h.job) logged;
+      bounds = subst (λ (j : Job). b.fine_bounds.items ≡ settled_bounds j.instance (drop b.begun_nodes b.log.nodes)) (sym h.job) bounds;
+      begun_bounds = subst (λ (j : Job). map (bounded_node j.instance) (take b.begun_nodes b.log.nodes) ≡ take b.begun_nodes b.log.nodes) (sym h.job) (subst (λ (ns : List Node). map (bounded_node i) ns ≡ ns) (sym begun_kept) fits.begun_bounds);
+      bounds_room = omega (arith, fits.bounds_room, h.bounds_capacity, count, few_bounds i k e.square seen f, length_permutation a.leased.items (e ∷ b.leased.items) h.leased, h.leases);
       waiting_raised = subst (λ (j : Job). All (IsRaisedRight j.instance) b.waiting.entries) (sym h.job) (right_joined i entries a.waiting.entries b.waiting.entries back fits.waiting_raised h.waiting);
       leased_raised = subst (λ (j : Job). All (IsRaisedRight j.instance) b.leased.items) (sym h.job) out.1;
       counts = counts_return e seen f (state_of a) (state_of b) fresh step fits.counts;
@@ -114,12 +122,12 @@ pub fresh_given : (j : Job) (e e' : Entry) (seen : Option ℤ) (f : Finding) →
 fresh_given j e e' seen f same verdict =
     subst (λ (x : Finding). IsFreshRaise e x) (sym verdict) (subst (λ (x : Entry). IsFreshRaise x (finding_of j e' seen)) (sym same) (fresh_finding j e' seen))
 
--- what is logged and what waits by the finding on an entry that was leased
-pub logged_given : (a : Inside) (s : State) (e e' : Entry) (rest : List Entry) (seen : Option ℤ) (f : Finding) (fine : Option ℤ) → state_of a ≡ s → e ≡ e' → PoolFits a → IsPermutation a.leased.items (e ∷ rest)
-    → f ≡ finding_of s.job e' seen → fine ≡ fine_in (bounds_of s.job e') → IsLoggedBy a.job.instance e.square seen f fine
-logged_given a s e e' rest seen f fine view same fits out found known =
+-- what is kept and what waits by the finding on an entry that was leased
+pub kept_given : (a : Inside) (s : State) (e e' : Entry) (rest : List Entry) (seen : Option ℤ) (f : Finding) (bs : Bounds) → state_of a ≡ s → e ≡ e' → PoolFits a → IsPermutation a.leased.items (e ∷ rest)
+    → f ≡ finding_of s.job e' seen → bs ≡ bounds_of s.job e' → IsKeptOf a.job.instance e.square seen f (fine_in bs)
+kept_given a s e e' rest seen f bs view same fits out found known =
     let right = right_taken a.job.instance e a.leased.items rest fits.leased_raised out in
-    logged-by a.job s.job e e' seen f fine (ap (λ (t : State). t.job) view) same right.0 found known
+    kept-by a.job s.job e e' seen f bs (ap (λ (t : State). t.job) view) same right.0 found known
 
 -- a part is kept exactly where the code finds it closed
 pub closed_is : (a : Inside) (s : State) (f : Finding) (count : ℕ) (closed k : Bool) → state_of a ≡ s → count ≡ open_count s → closed ≡ (is_part f && (is_some a.stop || nat_lt a.job.pool (count + 3))) → closed ≡ k → is_kept (state_of a) f ≡ k

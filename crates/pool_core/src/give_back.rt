@@ -1,14 +1,15 @@
 //! Giving a leased square back.
 
 ghost use Rattle.std.specs.Prelude.{◌≡◌, ◌+◌, ◌<◌, ◌≤◌, nat_lt, ◌&&◌, ◌||◌, true, false};
-ghost use Rattle.std.specs.Prelude.{is_some, Some, [], ◌∷◌, ◌++◌, length, vec_capacity};
+ghost use Rattle.std.specs.Prelude.{is_some, Some, [], ◌∷◌, ◌++◌, length, vec_len, vec_capacity};
 ghost use Rattle.std.specs.Prelude.{slice_index_or, Contains, IsPermutation};
 ghost use Rattle.siting_definitions.specs.Square.{quarter_of};
 ghost use Rattle.pool_core.specs.declared.stop.Stop.TheVariants as stops;
 ghost use Rattle.pool_core.specs.declared.verdict.Finding.TheVariants as findings;
-ghost use Rattle.pool_core.specs.Verdict.{bounds_of, fine_in, finding_of, is_part};
-ghost use Rattle.pool_core.specs.Machine.{Returns, entries_from, first_stop};
-ghost use Rattle.pool_core.specs.Logged.{IsKnownFor, logged_from};
+ghost use Rattle.pool_core.specs.Verdict as verdicts;
+ghost use Rattle.pool_core.specs.Verdict.{finding_of, is_part};
+ghost use Rattle.pool_core.specs.Machine.{Returns, entries_from, first_stop, nodes_from};
+ghost use Rattle.pool_core.specs.Logged.{bound_from};
 ghost use Rattle.pool_core.specs.PoolAnswers as pool_answers;
 ghost use Rattle.pool_core.specs.PoolAnswers.{given_of};
 
@@ -16,7 +17,7 @@ use crate::job::Job;
 use crate::lease::Lease;
 use crate::pool::Pool;
 use crate::stop::Stop;
-use crate::verdict::{Finding, Verdict};
+use crate::verdict::{Bounds, Finding, Verdict, bounds_of, fine_in};
 use bound_heap::{Entry, Heap};
 use discard_log::{Log, Mark, Node};
 use dyadic_square::Square;
@@ -41,7 +42,18 @@ impl Pool {
     pub fn give_back(&mut self, lease: Lease, verdict: Verdict) -> Given
         requires leased { Contains self.old.leased lease }
         requires verdict { verdict.finding ≡ finding_of self.old.job lease verdict.seen }
-        requires fine { verdict.fine ≡ fine_in (bounds_of self.old.job lease) }
+        ensures step { Returns lease verdict.seen verdict.finding self.old self.new }
+        ensures given { result ≡ given_of self.old verdict.finding }
+    {
+        let bounds = bounds_of(&self.job, &lease);
+        self.give_back_by(lease, bounds, verdict)
+    }
+
+    /// Takes a leased square back as `give_back` does, from one who knows its bounds.
+    pub fn give_back_by(&mut self, lease: Lease, bounds: Bounds, verdict: Verdict) -> Given
+        requires leased { Contains self.old.leased lease }
+        requires bounds { bounds ≡ verdicts.bounds_of self.old.job lease }
+        requires verdict { verdict.finding ≡ finding_of self.old.job lease verdict.seen }
         ensures step { Returns lease verdict.seen verdict.finding self.old self.new }
         ensures given { result ≡ given_of self.old verdict.finding }
     {
@@ -56,14 +68,8 @@ impl Pool {
             return Given::Kept;
         }
         wait_found(&mut self.waiting, square, verdict.finding);
-        log_found(
-            &mut self.log,
-            square,
-            verdict.seen,
-            verdict.finding,
-            verdict.fine,
-        );
-        self.history = self.history.and(&square, &verdict);
+        log_found(&mut self.log, square, verdict.seen, verdict.finding);
+        keep_bound(&mut self.fine_bounds, verdict.finding, bounds);
         given_by(verdict.finding)
     }
 }
@@ -100,23 +106,43 @@ fn earlier(stop: Option<Stop>, count: u32) -> Stop
     }
 }
 
-/// Logs the node that a finding makes of a square, if it makes one, after `seen` was seen: with the
-/// fine bound of the square, in cost units, where the finding settles it by a number.
-fn log_found(log: &mut Log, square: Square, seen: Option<i64>, finding: Finding, fine: Option<i64>)
-    requires room { 0 < log.old.spare }
-    requires known { IsKnownFor finding fine }
-    ensures nodes { log.new.nodes ≡ log.old.nodes ++ logged_from square seen finding fine }
-    ensures spare { log.new.spare + length (logged_from square seen finding fine)
-        ≡ log.old.spare }
+/// Logs the node that a finding makes of a square, if it makes one, after `seen` was seen.
+fn log_found(log: &mut Log, square: Square, seen: Option<i64>, finding: Finding)
+    requires { 0 < log.old.spare }
+    ensures nodes { log.new.nodes ≡ log.old.nodes ++ nodes_from square seen finding }
+    ensures spare { log.new.spare + length (nodes_from square seen finding) ≡ log.old.spare }
 {
-    match (finding, fine) {
-        (Finding::Excluded, _) => add_node(log, square, Mark::Shut),
-        (Finding::Bounded(_), Some(bound)) => add_node(log, square, Mark::Bounded(bound)),
-        (Finding::Floor(_), Some(bound)) => add_node(log, square, Mark::Floor(bound)),
-        (Finding::Bounded(_), None) => unreachable!(),
-        (Finding::Floor(_), None) => unreachable!(),
-        (Finding::Part(_), _) => add_node(log, square, Mark::Split(seen)),
-        (Finding::Raise(_), _) => {}
+    match finding {
+        Finding::Excluded => add_node(log, square, Mark::Shut),
+        Finding::Bounded(bound) => add_node(log, square, Mark::Bounded(bound)),
+        Finding::Floor(bound) => add_node(log, square, Mark::Floor(bound)),
+        Finding::Part(_) => add_node(log, square, Mark::Split(seen)),
+        Finding::Raise(_) => {}
+    }
+}
+
+/// Keeps the fine bound among the bounds of a square, where the finding is that the gap settles it.
+fn keep_bound(fine_bounds: &mut Vec<i64>, finding: Finding, bounds: Bounds)
+    requires { vec_len fine_bounds.old < vec_capacity fine_bounds.old }
+    ensures bounds { fine_bounds.new.items
+        ≡ fine_bounds.old.items ++ bound_from finding (verdicts.fine_in bounds) }
+    ensures capacity { vec_capacity fine_bounds.old ≤ vec_capacity fine_bounds.new }
+{
+    match (finding, fine_in(bounds)) {
+        (Finding::Bounded(_), Some(fine)) => add_bound(fine_bounds, fine),
+        _ => {}
+    }
+}
+
+/// Adds a bound, in cost units, last.
+fn add_bound(fine_bounds: &mut Vec<i64>, fine: i64)
+    requires { vec_len fine_bounds.old < vec_capacity fine_bounds.old }
+    ensures bounds { fine_bounds.new.items ≡ fine_bounds.old.items ++ fine ∷ [] }
+    ensures capacity { vec_capacity fine_bounds.old ≤ vec_capacity fine_bounds.new }
+{
+    match fine_bounds.push(fine) {
+        Ok(()) => {}
+        Err(_) => unreachable!(),
     }
 }
 

@@ -4,7 +4,6 @@
 mod best;
 mod closed;
 mod give_back;
-mod history;
 mod job;
 mod laws;
 mod lease;

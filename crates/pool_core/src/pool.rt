@@ -1,7 +1,8 @@
 //! The pool, from its beginning to the nodes that it ends with.
 
-ghost use Rattle.std.specs.Prelude.{◌≡◌, ◌+◌, ◌≤◌, ◌++◌, [], map, filter, true};
-ghost use Rattle.std.specs.Prelude.{length, vec_capacity, All, IfOk, IsPermutation};
+ghost use Rattle.std.specs.Prelude.{◌≡◌, ◌+◌, ◌<◌, ◌≤◌, ◌++◌, [], map, filter, true};
+ghost use Rattle.std.specs.Prelude.{length, drop, slice_index_or, vec_capacity};
+ghost use Rattle.std.specs.Prelude.{All, IfOk, IsPermutation};
 ghost use Rattle.siting_definitions.specs.Tree.{Tree, Fits, preorder};
 ghost use Rattle.discard_log.specs.Nodes.{tree_square};
 ghost use Rattle.pool_core.specs.Job.{job_root};
@@ -9,10 +10,10 @@ ghost use Rattle.pool_core.specs.State as states;
 ghost use Rattle.pool_core.specs.State.{first_state, squares_of};
 ghost use Rattle.pool_core.specs.Begun.{IsBegunFrom, IsResumable, closed_nodes};
 ghost use Rattle.pool_core.specs.Begun.{is_left_open, left_count, left_of};
-ghost use Rattle.pool_core.specs.Logged.{bounded_node};
+ghost use Rattle.pool_core.specs.Logged.{bound_for, bounded_node, with_bounds_from};
+ghost use Rattle.discard_log.specs.declared.node.Node as nodes_of;
 ghost use Rattle.bound_heap.specs.declared.entry.Entry as entries;
 
-use crate::history::History;
 use crate::job::Job;
 use crate::stop::Stop;
 use bound_heap::{Entry, Heap};
@@ -51,10 +52,10 @@ pub struct Pool {
     pub(crate) job: Job,
     pub(crate) waiting: Heap,
     pub(crate) leased: Vec<Entry>,
-    /// The nodes of the history, each settled one with its fine bound.
     pub(crate) log: Log,
-    /// The nodes of the state.
-    pub(crate) history: History,
+    /// The fine bounds of the squares that the gap settled since the beginning, in the order of the
+    /// log.
+    pub(crate) fine_bounds: Vec<i64>,
     pub(crate) leases: u32,
     pub(crate) kept: u32,
     pub(crate) stop: Option<Stop>,
@@ -80,8 +81,8 @@ impl Model for Pool {
 
 impl Pool {
     /// The pool in which the root of the job waits with its coarse bound. It takes room for as many
-    /// entries as may be open, and for the nodes of as many splits as leases may be given;
-    /// `NoMemory` where memory ran out.
+    /// entries as may be open, and for as many leases as may be given for the nodes of a split and
+    /// for a bound each; `NoMemory` where memory ran out.
     pub fn begin(alloc: Global, job: &Job) -> Result<Pool, NoMemory>
         ensures { IfOk result (λ pool. pool ≡ first_state job.now) }
     {
@@ -90,6 +91,7 @@ impl Pool {
         let mut waiting = Heap::with_room(alloc, job.pool as usize)?;
         let leased = room_for(alloc, job.pool)?;
         let log = Log::with_room(alloc, 4 * job.budget as usize + 1)?;
+        let fine_bounds = room_for(alloc, job.budget)?;
         let job = job.clone()?;
         waiting.push(Entry {
             square: root,
@@ -101,7 +103,7 @@ impl Pool {
             waiting,
             leased,
             log,
-            history: History::new(),
+            fine_bounds,
             leases: 0,
             kept: 0,
             stop: None,
@@ -123,12 +125,12 @@ impl Pool {
         requires { IsResumable job.now nodes.now leases }
         ensures { IfOk result (IsBegunFrom job.now nodes.now leases) }
     {
-        let history = History::of(nodes);
         let nodes = nodes.nodes();
         let count = nodes.len();
         let mut waiting = Heap::with_room(alloc, job.pool as usize)?;
         let leased = room_for(alloc, job.pool)?;
         let mut log = Log::with_room(alloc, count + 4 * (job.budget - leases) as usize)?;
+        let fine_bounds = room_for(alloc, job.budget - leases)?;
         let job = job.clone()?;
         sort_out(nodes, &mut waiting, &mut log);
         let open = waiting.len();
@@ -137,7 +139,7 @@ impl Pool {
             waiting,
             leased,
             log,
-            history,
+            fine_bounds,
             leases,
             kept: 0,
             stop: None,
@@ -168,9 +170,22 @@ impl Pool {
         (self.waiting.len() + self.leased.len()) as u32
     }
 
-    /// The nodes, each settled one with its fine bound, and each waiting square left open with its
-    /// bound. Where they are the squares of one tree, they come in its preorder.
+    /// The nodes, and each waiting square left open with its bound. Where they are the squares of
+    /// one tree, they come in its preorder.
     pub fn into_nodes(self) -> NodeList
+        requires { self.leased ≡ [] }
+        ensures nodes { IsPermutation (self.nodes ++ map left_of self.waiting) result }
+        ensures preorder { (t : Tree) → Fits t (job_root self.job).level
+            → IsPermutation (squares_of self) (preorder t (job_root self.job))
+            → map tree_square result ≡ preorder t (job_root self.job) }
+    {
+        let root = root_of(&self.job);
+        listed(root, self.waiting, self.log)
+    }
+
+    /// The nodes as `into_nodes` gives them, but each that the gap settled with the fine bound of
+    /// its square.
+    pub fn into_bounded_nodes(self) -> NodeList
         requires { self.leased ≡ [] }
         ensures nodes { IsPermutation
             (map (bounded_node self.job.instance) self.nodes ++ map left_of self.waiting)
@@ -180,10 +195,9 @@ impl Pool {
             → map tree_square result ≡ preorder t (job_root self.job) }
     {
         let root = root_of(&self.job);
-        let waiting = self.waiting;
         let mut log = self.log;
-        log_waiting(waiting, &mut log);
-        log.in_preorder(root)
+        put_in_bounds(&mut log, self.begun_nodes, self.fine_bounds.as_slice());
+        listed(root, self.waiting, log)
     }
 }
 
@@ -194,12 +208,12 @@ fn root_of(job: &Job) -> Square
     job.root
 }
 
-/// An empty list with room for so many entries.
-fn room_for(alloc: Global, room: u32) -> Result<Vec<Entry>, NoMemory>
-    ensures { IfOk result (λ entries. (entries.items ≡ []) × (vec_capacity entries ≡ room)) }
+/// An empty list with room for so many elements.
+fn room_for<T>(alloc: Global, room: u32) -> Result<Vec<T>, NoMemory>
+    ensures { IfOk result (λ list. (list.items ≡ []) × (vec_capacity list ≡ room)) }
 {
     match Vec::with_capacity(alloc, room as usize) {
-        Ok(entries) => Ok(entries),
+        Ok(list) => Ok(list),
         Err(_) => Err(NoMemory),
     }
 }
@@ -229,6 +243,20 @@ fn sort_out(nodes: &[Node], waiting: &mut Heap, log: &mut Log)
     }
 }
 
+/// The nodes of a log, and each waiting square left open with its bound. Where they are the squares
+/// of one tree of `root`, they come in its preorder.
+fn listed(root: Square, waiting: Heap, log: Log) -> NodeList
+    requires { length waiting.entries ≤ log.spare }
+    ensures nodes { IsPermutation (log.nodes ++ map left_of waiting.entries) result }
+    ensures preorder { (t : Tree) → Fits t root.level
+        → IsPermutation (map tree_square (log.nodes ++ map left_of waiting.entries)) (preorder t root)
+        → map tree_square result ≡ preorder t root }
+{
+    let mut log = log;
+    log_waiting(waiting, &mut log);
+    log.in_preorder(root)
+}
+
 /// Logs each entry that waits as left open with its bound.
 fn log_waiting(mut waiting: Heap, log: &mut Log)
     requires { length waiting.entries ≤ log.old.spare }
@@ -239,5 +267,33 @@ fn log_waiting(mut waiting: Heap, log: &mut Log)
             square: entry.square,
             mark: Mark::Left(entry.bound),
         });
+    }
+}
+
+/// Gives the nodes that the gap settled these fine bounds, in cost units and in the order of the
+/// log, from the node at index `from` on.
+fn put_in_bounds(log: &mut Log, from: usize, fine_bounds: &[i64])
+    requires { from ≤ length log.old.nodes }
+    ensures nodes { log.new.nodes ≡ with_bounds_from from log.old.nodes fine_bounds.now }
+    ensures spare { log.new.spare ≡ log.old.spare }
+{
+    let mut next = 0;
+    for i in from..log.nodes().len() {
+        if let Some(bound) = bound_of(log, i, fine_bounds, next) {
+            log.remark(i, Mark::Bounded(bound));
+            next += 1;
+        }
+    }
+}
+
+/// The bound at index `next`, in cost units, where the gap settled the node at index `i`.
+fn bound_of(log: &Log, i: usize, fine_bounds: &[i64], next: usize) -> Option<i64>
+    requires { i < length log.now.nodes }
+    ensures { (n : nodes_of.Node) → result
+        ≡ bound_for (slice_index_or log.now.nodes i n).mark (drop next fine_bounds.now) }
+{
+    match log.nodes()[i].mark {
+        Mark::Bounded(_) => fine_bounds.get(next).copied(),
+        _ => None,
     }
 }

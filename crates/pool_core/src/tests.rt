@@ -188,7 +188,7 @@ fn settled_squares_have_their_fine_bounds(rt: HostRuntime) {
         let job = wide_job(&rt, rt.alloc());
         let mut pool = Pool::begin(rt.alloc(), &job).expect(&rt, "memory");
         assert_eq!(rt; raises(&rt, &mut pool, &job, Some(seen), leases), is_raised);
-        let nodes = pool.into_nodes();
+        let nodes = pool.into_bounded_nodes();
         assert_eq!(rt; nodes.nodes().len(), count);
         check_settled(&rt, &job, Some(seen), &nodes);
     }

@@ -44,16 +44,13 @@ pub enum Bounds {
     },
 }
 
-/// A finding, what was seen of the incumbent for it, and the fine bound of the square.
+/// A finding, and what was seen of the incumbent for it.
 #[derive(Clone, Copy, Debug, PartialEq, Eq)]
 pub struct Verdict {
     /// The number of the incumbent that was seen, in cost units, if there was one.
     pub seen: Option<i64>,
     /// What was found with it.
     pub finding: Finding,
-    /// The fine bound of the square, in cost units; a raised bound is taken for it. None exactly
-    /// where the square is excluded.
-    pub fine: Option<i64>,
 }
 
 /// The bounds of a leased square, in one pass over the points where its bound wasn't raised.
@@ -76,7 +73,8 @@ pub fn bounds_of(job: &Job, lease: &Lease) -> Bounds
     }
 }
 
-/// The fine bound among the bounds of a square, in cost units. None where the square is excluded.
+/// The fine bound among the bounds of a square, in cost units; a raised bound is taken for it.
+/// None exactly where the square is excluded.
 pub fn fine_in(bounds: Bounds) -> Option<i64>
     ensures { result ≡ verdicts.fine_in bounds }
 {
@@ -91,7 +89,6 @@ pub fn fine_in(bounds: Bounds) -> Option<i64>
 pub fn judge(job: &Job, lease: &Lease, seen: Option<i64>) -> Verdict
     ensures seen { result.seen ≡ seen }
     ensures finding { result.finding ≡ finding_of job.now lease.now seen }
-    ensures fine { result.fine ≡ verdicts.fine_in (verdicts.bounds_of job.now lease.now) }
 {
     judge_by(job, lease, bounds_of(job, lease), seen)
 }
@@ -103,12 +100,10 @@ pub fn judge_by(job: &Job, lease: &Lease, bounds: Bounds, seen: Option<i64>) -> 
     requires { bounds ≡ verdicts.bounds_of job.now lease.now }
     ensures seen { result.seen ≡ seen }
     ensures finding { result.finding ≡ finding_of job.now lease.now seen }
-    ensures fine { result.fine ≡ verdicts.fine_in (verdicts.bounds_of job.now lease.now) }
 {
     Verdict {
         seen,
         finding: finding_by(job, lease.square(), bounds, seen),
-        fine: fine_in(bounds),
     }
 }
 

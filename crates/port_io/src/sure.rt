@@ -101,8 +101,8 @@ impl<'a> Source for SliceSource<'a> {
     }
 }
 
-/// A sink in memory with a room. It takes all bytes and never fails, and its count of faults is
-/// always 0. It tells the bytes that it took as long as all of them fit its room.
+/// A sink in memory with a room. It never fails, and its count of faults is always 0. It keeps and
+/// tells the bytes that it took as long as all of them fit its room; the rest are dropped.
 #[derive(Drop)]
 pub struct SureSink {
     bytes: Vec<u8>,

@@ -8,6 +8,7 @@ use Rattle.port_io.specs.declared.whole.ReadAll.TheVariants.{ReadFault as ReadFa
 use Rattle.port_io.specs.declared.whole.ReadAll.TheVariants.{NoMemory as ReadNoMemory}
 use Rattle.siting_definitions.specs.Answer.{Head, IsValid}
 use Rattle.siting_definitions.specs.AnswerText.{answer_text}
+use Rattle.siting_definitions.specs.declared.TheConstants.{LOAD_LIMIT}
 use Rattle.discard_log.specs.declared.node.Node.{Node}
 use Rattle.answer_model.specs.Nodes.{nodes_of}
 use Rattle.search_answer.specs.Ending.{answer_of}
@@ -16,10 +17,6 @@ use Rattle.cert_checker.specs.Checking.{checking}
 use Rattle.resume_job.specs.declared.loading.LoadError.{LoadError}
 use Rattle.resume_job.specs.declared.loading.LoadError.TheVariants.{TooLong, ReadFault, Check}
 use Rattle.resume_job.specs.declared.loading.LoadError.TheVariants.{NoMemory}
-
--- how many bytes may be loaded
-abbrev pub load_limit : ℕ
-load_limit = 100000000
 
 -- the head and the nodes of a valid answer
 pub record AreOfValid (h : Head) (ns : List Node) : Type 0 where
@@ -36,9 +33,9 @@ load_error_of ReadNoMemory = NoMemory
 -- were read, and they aren't the text of a valid answer. A source that fails and want of memory may
 -- come in the place of both.
 abbrev pub RefusesAs : List ℕ → Option (List ℕ) → LoadError → Type 0
-RefusesAs bytes left TooLong = load_limit < length bytes
+RefusesAs bytes left TooLong = LOAD_LIMIT < length bytes
 RefusesAs bytes left (Check fault) =
-    (length bytes ≤ load_limit) × (checking bytes ≡ Err (Fault fault)) × (left ≡ Some [])
+    (length bytes ≤ LOAD_LIMIT) × (checking bytes ≡ Err (Fault fault)) × (left ≡ Some [])
 RefusesAs bytes left ReadFault = ⊤
 RefusesAs bytes left NoMemory = ⊤
 
@@ -53,17 +50,17 @@ abbrev pub IsOfSome : LoadError → Type 0
 IsOfSome TooLong = ⊤
 IsOfSome ReadFault = ⊤
 IsOfSome (Check fault) =
-    (bytes : List ℕ) × (length bytes ≤ load_limit) × (checking bytes ≡ Err (Fault fault))
+    (bytes : List ℕ) × (length bytes ≤ LOAD_LIMIT) × (checking bytes ≡ Err (Fault fault))
 IsOfSome NoMemory = ⊤
 
 -- How many bytes were read where this is answered: at most as many as may be, but where more came,
 -- and then at most a piece more.
 abbrev pub LoadReadsAtMost : {T : Type 0} → ℕ → Result T LoadError → Type 0
-LoadReadsAtMost read (Ok loaded) = read ≤ load_limit
-LoadReadsAtMost read (Err TooLong) = (load_limit < read) × (read ≤ load_limit + piece_size)
-LoadReadsAtMost read (Err ReadFault) = read ≤ load_limit
-LoadReadsAtMost read (Err (Check fault)) = read ≤ load_limit
-LoadReadsAtMost read (Err NoMemory) = read ≤ load_limit
+LoadReadsAtMost read (Ok loaded) = read ≤ LOAD_LIMIT
+LoadReadsAtMost read (Err TooLong) = (LOAD_LIMIT < read) × (read ≤ LOAD_LIMIT + piece_size)
+LoadReadsAtMost read (Err ReadFault) = read ≤ LOAD_LIMIT
+LoadReadsAtMost read (Err (Check fault)) = read ≤ LOAD_LIMIT
+LoadReadsAtMost read (Err NoMemory) = read ≤ LOAD_LIMIT
 
 -- what holds where something else than `ReadFault` is answered
 abbrev pub UnlessLoadReadFault : {T : Type 0} → Result T LoadError → Type 0 → Type 0

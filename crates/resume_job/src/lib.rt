@@ -9,5 +9,5 @@ mod reopening;
 mod tests;
 
 pub use laws::{a_resumed_search_resumes, answers_resumed_in_turn_go_on};
-pub use loading::{LOAD_LIMIT, LoadError, load};
+pub use loading::{LoadError, load};
 pub use reopening::{ReopenError, reopen};

@@ -5,6 +5,7 @@ ghost use Rattle.std.specs.Prelude.{IsErrOf, IsTrue};
 ghost use Rattle.port_io.specs.Bytes.{HasRest};
 ghost use Rattle.port_io.specs.Faults.{Rose};
 ghost use Rattle.siting_definitions.specs.AnswerText.{answer_text};
+ghost use Rattle.siting_definitions.specs.declared.TheConstants.{LOAD_LIMIT};
 ghost use Rattle.search_answer.specs.Ending.{answer_of};
 ghost use Rattle.resume_job.specs.Loading.{AreOfValid, IsOfSome, LoadsTo, LoadReadsAtMost};
 ghost use Rattle.resume_job.specs.Loading.{UnlessLoadReadFault, load_error_of};
@@ -15,14 +16,12 @@ use cert_checker::{CheckError, CheckFault, check};
 use certificate::Head;
 use discard_log::NodeList;
 use port_io::{ReadAll, SliceSource, Source, read_up_to};
+use siting_definitions::LOAD_LIMIT;
 use std::alloc::Global;
 use thiserror::Error;
 
-/// How many bytes may be loaded. The text of each valid answer has fewer.
-pub const LOAD_LIMIT: usize = 100_000_000;
-
 /// Why no answer was loaded.
-#[derive(Debug, Drop, Error)]
+#[derive(Clone, Copy, Debug, Error)]
 pub enum LoadError {
     /// More than 100,000,000 bytes came, which no valid answer has.
     #[error("the answer is longer than the limit")]

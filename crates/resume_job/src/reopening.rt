@@ -11,6 +11,7 @@ ghost use Rattle.search_answer.specs.Ending.{offer_of};
 ghost use Rattle.resume_job.specs.Loading.{AreOfValid};
 ghost use Rattle.resume_job.specs.Reopening as reopened;
 ghost use Rattle.resume_job.specs.Reopening.{ReopensTo};
+ghost use Rattle.siting_definitions.specs.declared.TheConstants.{BUDGET_LIMIT, POOL_LIMIT};
 
 use answer_model::{Head, Tally};
 use discard_log::{Node, NodeList};
@@ -51,9 +52,9 @@ pub fn reopen(
     pool: u32,
 ) -> Result<(Job, Pool), ReopenError>
     requires answer { AreOfValid head nodes.now }
-    requires budget { budget ≤ 1000000 }
+    requires budget { budget ≤ BUDGET_LIMIT }
     requires pool_least { 1 ≤ pool }
-    requires pool_most { pool ≤ 1000000 }
+    requires pool_most { pool ≤ POOL_LIMIT }
     ensures opened { ReopensTo head nodes.now budget pool result }
     ensures sound { IfOk result (λ opened. IsPoolOf opened.0 opened.1) }
 {
@@ -101,9 +102,9 @@ fn tally_nodes(nodes: &[Node]) -> Tally
 
 /// The job with the answer's instance and gap, which starts from its site with the upper cost.
 fn job_from(head: Head, budget: u32, pool: u32) -> Job
-    requires budget { budget ≤ 1000000 }
+    requires budget { budget ≤ BUDGET_LIMIT }
     requires pool_least { 1 ≤ pool }
-    requires pool_most { pool ≤ 1000000 }
+    requires pool_most { pool ≤ POOL_LIMIT }
     requires best { HeadFits head }
     ensures { result ≡ reopened.job_from head budget pool }
 {

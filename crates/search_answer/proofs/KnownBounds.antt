@@ -67,7 +67,7 @@ known_mark : (i : Instance) (gap : ℤ) (u : Option ℤ) (s : Square) (m : Mark)
 known_mark i gap u s (Split seen) fits = tt
 known_mark i gap u s Shut fits = fits
 known_mark i gap u s (Bounded c) fits = (fits.0, refl)
-known_mark i gap u s (Floor b) fits = (fits.0, refl)
+known_mark i gap u s (Floor b) fits = (fits.0, fits.2)
 known_mark i gap u s (Left b) fits = absurd fits
 
 -- the nodes of a search that ended tell what their finished marks need

@@ -18,7 +18,8 @@ use Rattle.search_answer.specs.Ending.{IsKnownNode, finished_mark, finished_node
 -- a leaf with its finished mark
 pub remarked_leaf : (j : Job) (u : Option ℤ) (ns : List Node) (i : ℕ) (n : Node) (m : Mark) (d : Node) → i < length ns → n ≡ get_or ns i n → m ≡ finished_mark j u n → with_mark ns i m ≡ set ns i (finished_node j u (get_or ns i d))
 remarked_leaf j u ns i n m d within at made =
-    sym (set-mark ns i n m within at)
+    sym (set-mark ns i n m within)
+    ∙ ap (λ (k : Node). set ns i (record { square = k.square; mark = m })) (sym at)
     ∙ ap (λ (k : Mark). set ns i (record { square = n.square; mark = k })) made
     ∙ ap (λ (k : Node). set ns i (finished_node j u k)) (get_or_read ns i n within at d)
 

@@ -15,13 +15,17 @@ use pool_core::{Closed, Job, cost_in};
 use std::thread;
 use std::thread::Threads;
 
-/// In at most so many parts the leaves are marked, whatever the number of workers.
-const MOST_PARTS: usize = 64;
+/// In so many rounds, at the most, the nodes are marked: within each the workers have parts of one
+/// length, so that none has all the squares that take long.
+const ROUNDS: usize = 16;
+
+/// A round has at least so many nodes, unless it is the only one.
+const LEAST_ROUND: usize = 1024;
 
 /// The answer that `finish` gives, where so many workers mark the leaves: the fine bound of each
-/// square that was left open takes most of the time. The nodes are cut into four parts a worker, at
-/// most 64 in all, since parts of one length don't take the same time. It takes no memory. Where no
-/// thread can be made the parts are marked one after another.
+/// square that was left open takes most of the time. They work in rounds, no more of them at once
+/// than were asked for. It takes no memory. Where no thread can be made the parts are marked one
+/// after another.
 pub fn finish_by_workers<R: Threads + Sync>(
     rt: &R,
     job: Job,
@@ -38,40 +42,69 @@ pub fn finish_by_workers<R: Threads + Sync>(
     let Closed { pool, best } = closed;
     let stop = pool.stop();
     let leases = pool.leases();
-    let parts = (4 * workers as usize).min(MOST_PARTS);
-    let nodes = mark_nodes(rt, &job, cost_in(&best), parts, pool.into_nodes());
+    let nodes = mark_nodes(
+        rt,
+        &job,
+        cost_in(&best),
+        workers as usize,
+        pool.into_bounded_nodes(),
+    );
     let tally = tally_of(nodes.nodes());
     let head = head_of(job, &best, &tally, stop, leases);
     (head, nodes)
 }
 
-/// The nodes with the finished mark of each leaf, for the least upper cost, made in so many parts
-/// at the same time.
+/// The nodes with the finished mark of each leaf, for the least upper cost, made by so many workers.
 fn mark_nodes<R: Threads + Sync>(
     rt: &R,
     job: &Job,
     least: Option<i64>,
-    parts: usize,
+    workers: usize,
     nodes: NodeList,
 ) -> NodeList
-    requires parts { 0 < parts }
+    requires workers { 0 < workers }
     requires known { All (IsKnownNode job.now.instance) nodes }
     ensures { result ≡ map (finished_node job.now least) nodes }
 {
     let mut nodes = nodes.into_vec();
-    mark_parts(rt, job, least, parts, nodes.as_mut_slice());
+    let round = (nodes.len() / ROUNDS).max(LEAST_ROUND);
+    mark_rounds(rt, job, least, workers, round, nodes.as_mut_slice());
     NodeList::from_vec(nodes)
 }
 
-/// Gives each leaf its finished mark, for the least upper cost, in so many parts at the same time.
-fn mark_parts<R: Threads + Sync>(
+/// Gives each leaf its finished mark, for the least upper cost, by so many workers, in rounds of at
+/// most so many nodes.
+fn mark_rounds<R: Threads + Sync>(
     rt: &R,
     job: &Job,
     least: Option<i64>,
-    parts: usize,
+    workers: usize,
+    round: usize,
     nodes: &mut [Node],
 )
-    requires parts { 0 < parts }
+    requires workers { 0 < workers }
+    requires round { 0 < round }
+    requires known { All (IsKnownNode job.now.instance) nodes.old }
+    ensures { nodes.new ≡ map (finished_node job.now least) nodes.old }
+{
+    if nodes.len() <= round {
+        mark_round(rt, job, least, workers, nodes);
+        return;
+    }
+    let (first, rest) = nodes.split_at_mut(nodes.len() / 2);
+    mark_rounds(rt, job, least, workers, round, first);
+    mark_rounds(rt, job, least, workers, round, rest);
+}
+
+/// Gives each leaf its finished mark, for the least upper cost, by so many workers at the same time.
+fn mark_round<R: Threads + Sync>(
+    rt: &R,
+    job: &Job,
+    least: Option<i64>,
+    workers: usize,
+    nodes: &mut [Node],
+)
+    requires workers { 0 < workers }
     requires known { All (IsKnownNode job.now.instance) nodes.old }
     ensures { nodes.new ≡ map (finished_node job.now least) nodes.old }
 {
@@ -79,7 +112,7 @@ fn mark_parts<R: Threads + Sync>(
         requires { IsKnownNode job.now.instance node.now }
         ensures { node.exit.now ≡ finished_node job.entry.now least node.entry.now }
     { mark_node(job, least, node) };
-    thread::for_each_mut(rt, nodes, parts, &mark);
+    thread::for_each_mut(rt, nodes, workers, &mark);
 }
 
 /// Gives a node its finished mark, for the least upper cost.

@@ -12,6 +12,7 @@ ghost use Rattle.answer_model.specs.Head.{best_of};
 ghost use Rattle.search_answer.specs.Ending.{Finishes, IsKnownMark, IsKnownNode, answer_of};
 ghost use Rattle.search_answer.specs.Ending.{best_by, finished_node, head_by};
 ghost use Rattle.search_answer.specs.Ending as endings;
+ghost use Rattle.siting_definitions.specs.declared.TheConstants.{BUDGET_LIMIT, POOL_LIMIT};
 
 use answer_model::{Head, Tally, Word, is_split, leaf_mark, mark_by_bound};
 use discard_log::{Mark, NodeList};
@@ -31,7 +32,7 @@ pub fn finish(job: Job, closed: Closed) -> (Head, NodeList)
     let Closed { pool, best } = closed;
     let stop = pool.stop();
     let leases = pool.leases();
-    let mut nodes = pool.into_nodes();
+    let mut nodes = pool.into_bounded_nodes();
     let tally = finish_marks(&job, cost_in(&best), &mut nodes);
     let head = head_of(job, &best, &tally, stop, leases);
     (head, nodes)
@@ -102,8 +103,8 @@ pub(crate) fn head_of(
     stop: Option<Stop>,
     leases: u32,
 ) -> Head
-    requires leases { leases ≤ 1000000 }
-    requires open_count { endings.open_for (endings.ending_word tally.now stop) stop ≤ 1000000 }
+    requires leases { leases ≤ BUDGET_LIMIT }
+    requires open_count { endings.open_for (endings.ending_word tally.now stop) stop ≤ POOL_LIMIT }
     ensures value { result ≡ head_by job best.now tally.now stop leases }
     ensures range { IsHead result }
 {

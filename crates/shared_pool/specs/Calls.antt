@@ -7,8 +7,9 @@ use Rattle.bound_heap.specs.declared.entry.Entry.{Entry}
 use Rattle.pool_core.specs.declared.lease.LeaseAnswer.{LeaseAnswer}
 use Rattle.pool_core.specs.declared.lease.LeaseAnswer.TheVariants as answers
 use Rattle.pool_core.specs.declared.give_back.Given.{Given}
+use Rattle.pool_core.specs.declared.verdict.Bounds.{Bounds}
 use Rattle.pool_core.specs.declared.verdict.Finding.{Finding}
-use Rattle.pool_core.specs.Verdict.{bounds_of, fine_in, finding_of, is_part}
+use Rattle.pool_core.specs.Verdict.{bounds_of, finding_of, is_part}
 use Rattle.pool_core.specs.Machine.{Returns}
 use Rattle.pool_core.specs.PoolAnswers.{LeaseAnswers, given_of}
 use Rattle.shared_pool.specs.declared.view.View.{View}
@@ -54,10 +55,9 @@ TriesReturn (returning.Taken given) before after = IsGivenBack given before afte
 abbrev pub IsFound : View → Option ℤ → Finding → Type 0
 IsFound v seen finding = ForSome v.lease (λ lease. finding ≡ finding_of v.first.job lease seen)
 
--- the fine bound is the one of the square of the desk's lease, for the table's job: a raised bound
--- is taken for it, and there is none where the square is excluded
-abbrev pub IsFineOf : View → Option ℤ → Type 0
-IsFineOf v fine = ForSome v.lease (λ lease. fine ≡ fine_in (bounds_of v.first.job lease))
+-- these are the bounds of the square of the desk's lease, for the table's job
+abbrev pub AreBoundsOf : View → Bounds → Type 0
+AreBoundsOf v bounds = ForSome v.lease (λ lease. bounds ≡ bounds_of v.first.job lease)
 
 -- where the finding is to split the square of the desk's lease, and the square has a centre site,
 -- the number that was seen is at most the upper cost of that site

@@ -1,11 +1,11 @@
 //! Giving a leased square back.
 
-ghost use Rattle.std.specs.Prelude.{◌≡◌, true, [], ◌∷◌, Contains, IsSome};
+ghost use Rattle.std.specs.Prelude.{◌≡◌, true, [], ◌∷◌, Contains, IsSome, MatchOption, ⊤};
 ghost use Rattle.pool_core.specs.State as states;
-ghost use Rattle.pool_core.specs.Verdict.{bounds_of, fine_in, finding_of};
+ghost use Rattle.pool_core.specs.Verdict.{bounds_of, finding_of};
 ghost use Rattle.pool_core.specs.Machine.{Returns};
 ghost use Rattle.pool_core.specs.PoolAnswers.{given_of};
-ghost use Rattle.shared_pool.specs.Calls.{IsCentreSeen, IsFineOf, IsFound, TriesReturn};
+ghost use Rattle.shared_pool.specs.Calls.{AreBoundsOf, IsCentreSeen, IsFound, TriesReturn};
 ghost use Rattle.shared_pool.specs.Desks.{IsDeskOf, view};
 
 use crate::desk::Desk;
@@ -14,7 +14,7 @@ use crate::rule::Words;
 use crate::shared::SharedPool;
 use crate::view::View;
 use atomic_table::Seat;
-use pool_core::{Given, Lease, Pool, Verdict};
+use pool_core::{Bounds, Given, Lease, Pool, Verdict};
 
 /// What a try to give a lease back answers.
 #[derive(Clone, Copy, Debug, PartialEq, Eq)]
@@ -36,7 +36,43 @@ impl SharedPool {
         requires fresh { (view desk.old).fresh ≡ true }
         requires seen { verdict.seen ≡ (view desk.old).seen }
         requires finding { IsFound (view desk.old) verdict.seen verdict.finding }
-        requires fine { IsFineOf (view desk.old) verdict.fine }
+        requires centre { IsCentreSeen (view desk.old) verdict.seen verdict.finding }
+        ensures answer { TriesReturn result (view desk.old) (view desk.new) }
+        ensures desk { IsDeskOf self.now desk.new }
+    {
+        self.try_return_with(desk, None, verdict)
+    }
+
+    /// Gives the lease of a desk back as `try_return` does, from one who knows the bounds of its
+    /// square.
+    pub fn try_return_by(&self, desk: &mut Desk, bounds: Bounds, verdict: Verdict) -> TryReturn
+        requires desk { IsDeskOf self.now desk.old }
+        requires lease { IsSome (view desk.old).lease }
+        requires fresh { (view desk.old).fresh ≡ true }
+        requires seen { verdict.seen ≡ (view desk.old).seen }
+        requires bounds { AreBoundsOf (view desk.old) bounds }
+        requires finding { IsFound (view desk.old) verdict.seen verdict.finding }
+        requires centre { IsCentreSeen (view desk.old) verdict.seen verdict.finding }
+        ensures answer { TriesReturn result (view desk.old) (view desk.new) }
+        ensures desk { IsDeskOf self.now desk.new }
+    {
+        self.try_return_with(desk, Some(bounds), verdict)
+    }
+
+    /// Gives the lease of a desk back as `try_return` does, with the bounds of its square where
+    /// they are known.
+    fn try_return_with(
+        &self,
+        desk: &mut Desk,
+        bounds: Option<Bounds>,
+        verdict: Verdict,
+    ) -> TryReturn
+        requires desk { IsDeskOf self.now desk.old }
+        requires lease { IsSome (view desk.old).lease }
+        requires fresh { (view desk.old).fresh ≡ true }
+        requires seen { verdict.seen ≡ (view desk.old).seen }
+        requires bounds { MatchOption bounds ⊤ (AreBoundsOf (view desk.old)) }
+        requires finding { IsFound (view desk.old) verdict.seen verdict.finding }
         requires centre { IsCentreSeen (view desk.old) verdict.seen verdict.finding }
         ensures answer { TriesReturn result (view desk.old) (view desk.new) }
         ensures desk { IsDeskOf self.now desk.new }
@@ -47,7 +83,13 @@ impl SharedPool {
         match desk.lease.take() {
             None => unreachable!(),
             Some(lease) => {
-                let given = give_back_to(&self.table.shared, &mut desk.seat, lease, verdict);
+                let given = give_back_to(
+                    &self.table.shared,
+                    &mut desk.seat,
+                    lease,
+                    bounds,
+                    verdict,
+                );
                 self.table
                     .shared
                     .store::<GiveAfterReturn>(&mut desk.seat, 1, 0);
@@ -57,13 +99,20 @@ impl SharedPool {
     }
 }
 
-/// Gives a lease back to the pool that a seat holds.
-fn give_back_to(words: &Words, seat: &mut Seat<Pool, View>, lease: Lease, verdict: Verdict) -> Given
+/// Gives a lease back to the pool that a seat holds, with the bounds of its square where they are
+/// known.
+fn give_back_to(
+    words: &Words,
+    seat: &mut Seat<Pool, View>,
+    lease: Lease,
+    bounds: Option<Bounds>,
+    verdict: Verdict,
+) -> Given
     requires seat { seat.old.table_id ≡ words.now.table_id }
     requires pool { (pool : states.State) × (seat.old.me.1 ≡ (0, pool) ∷ [])
         × Contains pool.leased lease
         × (verdict.finding ≡ finding_of pool.job lease verdict.seen)
-        × (verdict.fine ≡ fine_in (bounds_of pool.job lease)) }
+        × MatchOption bounds ⊤ (λ known. known ≡ bounds_of pool.job lease) }
     ensures returned { (before : states.State) × (after : states.State)
         × (seat.old.me.1 ≡ (0, before) ∷ []) × (seat.new.me.1 ≡ (0, after) ∷ [])
         × Returns lease verdict.seen verdict.finding before after
@@ -72,5 +121,8 @@ fn give_back_to(words: &Words, seat: &mut Seat<Pool, View>, lease: Lease, verdic
         × (seat.new.me.0 ≡ seat.old.me.0) }
 {
     let pool = seat.slot_mut(words, 0);
-    pool.give_back(lease, verdict)
+    match bounds {
+        Some(bounds) => pool.give_back_by(lease, bounds, verdict),
+        None => pool.give_back(lease, verdict),
+    }
 }

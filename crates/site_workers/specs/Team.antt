@@ -11,7 +11,7 @@ use Rattle.pool_core.specs.Sound.{EntryFits}
 use Rattle.shared_pool.specs.declared.desk.Desk.{Desk}
 use Rattle.shared_pool.specs.declared.shared.SharedPool.{SharedPool}
 use Rattle.shared_pool.specs.declared.view.View.{View}
-use Rattle.shared_pool.specs.Calls.{IsCentreSeen, IsFineOf, IsFound}
+use Rattle.shared_pool.specs.Calls.{AreBoundsOf, IsCentreSeen, IsFound}
 use Rattle.shared_pool.specs.Desks.{IsDeskOf, view}
 
 -- the desk is at the table, and has no lease
@@ -45,11 +45,12 @@ pub record HasOffered (shared : SharedPool) (d : Desk) : Type 0 where
   pub lease : HasLease shared d
   pub centre : HasSeenCentre (view d)
 
--- it has a lease, and this is the verdict on it for what the desk has seen since it got it
-pub record HasVerdict (shared : SharedPool) (d : Desk) (verdict : Verdict) : Type 0 where
+-- it has a lease, whose square has these bounds, and this is the verdict on it for what the desk has
+-- seen since it got it
+pub record HasVerdict (shared : SharedPool) (d : Desk) (bounds : Bounds) (verdict : Verdict) : Type 0 where
   pub lease : HasLease shared d
   pub fresh : (view d).fresh ≡ true
   pub seen : verdict.seen ≡ (view d).seen
   pub finding : IsFound (view d) verdict.seen verdict.finding
-  pub fine : IsFineOf (view d) verdict.fine
+  pub bounds_are : AreBoundsOf (view d) bounds
   pub centre : IsCentreSeen (view d) verdict.seen verdict.finding

@@ -57,19 +57,20 @@ fn work_off<R: Wait, G: Gate>(rt: &R, gate: &G, shared: &SharedPool, job: &Job, 
     requires desk { HasLease shared.now desk.old }
     ensures { IsFree shared.now desk.new }
 {
-    let verdict = judge_lease(shared, job, desk);
+    let bounds = lease_bounds(job, desk);
+    let verdict = judge_lease(shared, job, desk, bounds);
     gate.pass(Moment::Judged);
-    give_back(rt, gate, shared, desk, verdict);
+    give_back(rt, gate, shared, desk, bounds, verdict);
 }
 
-/// The verdict on the leased square, after its centre site was offered and the incumbent was looked
-/// at.
-fn judge_lease(shared: &SharedPool, job: &Job, desk: &mut Desk) -> Verdict
+/// The verdict on the leased square, which has these bounds, after its centre site was offered and
+/// the incumbent was looked at.
+fn judge_lease(shared: &SharedPool, job: &Job, desk: &mut Desk, bounds: Bounds) -> Verdict
     requires job { (first_pool shared.now).job ≡ job.now }
     requires desk { HasLease shared.now desk.old }
-    ensures { HasVerdict shared.now desk.new result }
+    requires bounds { HasBounds job.now (view desk.old) bounds }
+    ensures { HasVerdict shared.now desk.new bounds result }
 {
-    let bounds = lease_bounds(job, desk);
     offer_centre(shared, job, desk, bounds);
     look(shared, desk);
     match desk.lease() {
@@ -124,20 +125,21 @@ fn look(shared: &SharedPool, desk: &mut Desk)
     shared.look(desk);
 }
 
-/// Gives the lease back with the verdict on it, as soon as it gets the turn.
+/// Gives the lease, whose square has these bounds, back with the verdict on it, as soon as it gets the turn.
 fn give_back<R: Wait, G: Gate>(
     rt: &R,
     gate: &G,
     shared: &SharedPool,
     desk: &mut Desk,
+    bounds: Bounds,
     verdict: Verdict,
 )
-    requires { HasVerdict shared.now desk.old verdict }
+    requires { HasVerdict shared.now desk.old bounds verdict }
     ensures { IsFree shared.now desk.new }
 {
     let backoff = Backoff::new();
     for _ in rt.forever() {
-        match shared.try_return(desk, verdict) {
+        match shared.try_return_by(desk, bounds, verdict) {
             TryReturn::Taken(_) => return,
             TryReturn::Busy => {
                 gate.pass(Moment::Busy);

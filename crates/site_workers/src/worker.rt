@@ -61,7 +61,7 @@ fn work(job: &Job, pool: &mut Pool, lease: Lease, best: &Option<(Site, i64)>) ->
     let bounds = bounds_of(job, &lease);
     let best = best_after(job, &lease, bounds, best);
     let verdict = judge_by(job, &lease, bounds, cost_in(&best));
-    pool.give_back(lease, verdict);
+    pool.give_back_by(lease, bounds, verdict);
     best
 }
 

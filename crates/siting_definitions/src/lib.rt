@@ -1,8 +1,13 @@
 //! The definitions of siting: instances, costs, bounds, squares, trees, answers and their texts.
 //!
-//! The definitions are in `specs/`, and no function stands here. What is declared here are the
-//! limits and the enums that they name; the crate that each enum belongs to passes it on.
+//! The definitions are in `specs/`. What is declared here are the limits, with the law that says
+//! their numbers, and the enums that the definitions name; the crate that each enum belongs to
+//! passes it on.
 #![tactic(auto)]
+
+mod limits;
+
+pub use limits::limits_have_their_numbers;
 
 /// How many grid units make a length, and how many cost units a weight of 1 at
 /// a distance of one length.
@@ -34,6 +39,24 @@ pub const BUDGET_LIMIT: u32 = 1000000;
 
 /// The greatest pool: how many squares may be open at once.
 pub const POOL_LIMIT: u32 = 1000000;
+
+/// How many millionths of a cost the gap may be at most.
+pub const PPM_LIMIT: u32 = 1000000;
+
+/// How many workers a team has at most.
+pub const WORKER_LIMIT: u32 = 64;
+
+/// The greatest seed of a made instance: 2^31 - 1.
+pub const SEED_LIMIT: u32 = 2147483647;
+
+/// How many bytes of an instance text are read at most.
+pub const INSTANCE_LIMIT: usize = 1048576;
+
+/// How many bytes of an answer are checked at most: 2^30.
+pub const CHECK_LIMIT: u32 = 1073741824;
+
+/// How many bytes of an answer are loaded at most. No valid answer has as many.
+pub const LOAD_LIMIT: usize = 100000000;
 
 /// How the terms "weight times distance" make a cost.
 #[derive(Clone, Copy, Debug, PartialEq, Eq)]

@@ -6,6 +6,7 @@ ghost use Rattle.bsss_cli.specs.Resume as resuming;
 ghost use Rattle.bsss_cli.specs.Reopened.{IsReopened};
 ghost use Rattle.bsss_cli.specs.Ports.{source_ghosts, sink_ghosts};
 ghost use Rattle.bsss_cli.specs.Outcome.{Ran};
+ghost use Rattle.siting_definitions.specs.declared.TheConstants.{BUDGET_LIMIT, POOL_LIMIT};
 
 use crate::commands::load::load_answer;
 use crate::output::{say_answer, say_small_budget, say_small_pool};
@@ -81,8 +82,8 @@ fn begin_resume<S: Source, K: Sink>(
     source: &mut S,
     sink: &mut K,
 ) -> Result<(Job, Pool), Status>
-    requires budget { budget ≤ 1000000 }
-    requires pool { IfSome pool (λ n. (1 ≤ n) × (n ≤ 1000000)) }
+    requires budget { budget ≤ BUDGET_LIMIT }
+    requires pool { IfSome pool (λ n. (1 ≤ n) × (n ≤ POOL_LIMIT)) }
     ensures { MatchResult result
         (λ begun. (sink.new ≡ sink.old) × IsReopened (source_ghosts S.left S.faults S.is_strict)
         budget pool source.old source.new begun.0 begun.1)

@@ -21,12 +21,10 @@ use port_io::{ReadAll, Sink, Source, read_up_to};
 use search_answer::{finish, finish_by_workers};
 use site_model::{Instance, Site};
 use site_workers::{Gate, alone, team};
+use siting_definitions::INSTANCE_LIMIT;
 use std::alloc::Global;
 use std::sync::Wait;
 use std::thread::Threads;
-
-/// How many bytes an instance text has at most.
-const INSTANCE_LIMIT: usize = 1_048_576;
 
 /// Reads an instance, and writes an answer of one worker to it.
 pub(crate) fn run_solve<S: Source, K: Sink>(

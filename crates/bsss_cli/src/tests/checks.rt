@@ -2,7 +2,7 @@
 
 use super::{CORNER_ANSWER, ONE_LEASE_ANSWER, run_words, sink_of, words_of};
 use crate::{OpenGate, Status, run};
-use cert_checker::CheckFault;
+use cert_checker::{CheckFault, Differ};
 use port_io::MemSource;
 use std::test::Fail;
 
@@ -105,13 +105,16 @@ fn a_fault_comes_before_a_later_failure_of_the_source(rt: HostRuntime) -> Result
     let root = "root 196608 262144 19\n";
     let at = CORNER_ANSWER.find(root).ok_or("no root")? + root.len();
     let mut text = String::from_str(rt.alloc(), &CORNER_ANSWER[..at])?;
-    text.push_str("X\n")?;
+    text.push_str("B 327681\n")?;
     let read = text.len() as u64;
     text.push_str("end\n")?;
     let fault = CheckFault {
-        number: 7,
+        number: 8,
         line: 17,
-        differ: None,
+        differ: Some(Differ {
+            has: Some(327_681),
+            wants: Some(327_680),
+        }),
     };
     // The call that fails, of one byte each, and the status.
     let cases = [

@@ -10,6 +10,12 @@ use std::sync::Wait;
 use std::test::Fail;
 use std::thread::Threads;
 
+/// The answer to `CORNER` that goes on from its answer: it had no split, so no lease counts.
+const RESUMED_CORNER_ANSWER: &str =
+    "siting answer 1\nsiting 1\nkind sum\npoint 0 0 1\npermit 3 4 9 4 3 10\nend\ngap 0\n\
+    budget 100000\npool 100000\nsite 196608 262144\ncost 327680 327680\nbound 327680\n\
+    answer solved\nopen 0\nleases 0\nroot 196608 262144 19\nB 327680\nend\n";
+
 /// The status of a run over ports that take and give `chunk` bytes at a call and of which one call
 /// fails, the first being 1, and what the sink took.
 fn run_failing(
@@ -51,6 +57,18 @@ fn each_call_fails_in_turn(rt: HostRuntime) -> Result<(), Fail> {
         ),
         ("check", CORNER_ANSWER, Status::Accepted, "accepted\n"),
         ("check", ONE_LEASE_ANSWER, Status::Accepted, "accepted\n"),
+        (
+            "check workers=2",
+            CORNER_ANSWER,
+            Status::Accepted,
+            "accepted\n",
+        ),
+        (
+            "resume budget=100000",
+            CORNER_ANSWER,
+            Status::Solved,
+            RESUMED_CORNER_ANSWER,
+        ),
     ];
     for (line, input, ends, text) in cases {
         for chunk in [1, 7, 4096] {

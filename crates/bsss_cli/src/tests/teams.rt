@@ -1,7 +1,8 @@
 //! Solves by several workers.
 
 use super::{
-    CORNER, CORNER_ANSWER, LONE_TOWN, ONE_LEASE_ANSWER, run_words, sink_of, source_of, words_of,
+    CORNER, CORNER_ANSWER, LONE_TOWN, ONE_LEASE_ANSWER, run_gated, run_words, sink_of, source_of,
+    words_of,
 };
 use crate::{Gate, Moment, OpenGate, Status, run};
 use std::sync::atomic::{AtomicBool, AtomicU64, Ordering};
@@ -63,20 +64,26 @@ fn a_failing_source_and_a_failing_sink_of_a_team(rt: HostRuntime) -> Result<(), 
 /// How often the gate that waits looks before it gives up.
 const LOOKS: u32 = 200_000_000;
 
-/// A gate that holds the worker that is second to get a lease until a third lease was got.
+/// A gate that holds each worker that gets a lease after the first, until one lease more was got
+/// than there are workers.
 #[derive(Drop)]
 struct Meeting {
+    workers: u64,
     leased: AtomicU64,
     gave_up: AtomicBool,
 }
 
 impl Gate for Meeting {
     fn pass(&self, moment: Moment) {
-        if moment != Moment::Leased || self.leased.fetch_add(1, Ordering::SeqCst) != 1 {
+        if moment != Moment::Leased {
+            return;
+        }
+        let before = self.leased.fetch_add(1, Ordering::SeqCst);
+        if before == 0 || before >= self.workers {
             return;
         }
         for _ in 0..LOOKS {
-            if self.leased.load(Ordering::SeqCst) > 2 {
+            if self.leased.load(Ordering::SeqCst) > self.workers {
                 return;
             }
         }
@@ -85,17 +92,74 @@ impl Gate for Meeting {
 }
 
 #[test]
-fn two_workers_at_once(rt: HostRuntime) -> Result<(), Fail> {
-    let words = words_of(rt.alloc(), "solve budget=1000 workers=2")?;
-    let mut source = source_of(rt.alloc(), LONE_TOWN, 0)?;
-    let mut sink = sink_of(rt.alloc(), 64, 0)?;
-    let gate = Meeting {
-        leased: AtomicU64::new(0),
-        gave_up: AtomicBool::new(false),
-    };
-    let status = run(&rt, rt.alloc(), &words, &mut source, &mut sink, &gate);
-    assert_eq!(rt; status, Status::Solved);
-    assert!(rt; gate.leased.load(Ordering::SeqCst) >= 3);
-    assert!(rt; !gate.gave_up.load(Ordering::SeqCst));
+fn all_workers_at_once(rt: HostRuntime) -> Result<(), Fail> {
+    let cases = [
+        (2, "solve budget=1000 workers=2"),
+        (3, "solve budget=1000 workers=3"),
+        (4, "solve budget=1000 workers=4"),
+    ];
+    for (workers, line) in cases {
+        let gate = Meeting {
+            workers,
+            leased: AtomicU64::new(0),
+            gave_up: AtomicBool::new(false),
+        };
+        let (status, _) = run_gated(&rt, rt.alloc(), line, LONE_TOWN, &gate)?;
+        assert_eq!(rt; status, Status::Solved, "{line}");
+        assert!(rt; !gate.gave_up.load(Ordering::SeqCst), "{line}");
+    }
+    Ok(())
+}
+
+/// A gate that counts how often each moment was passed.
+#[derive(Drop)]
+struct Counts {
+    leased: AtomicU64,
+    judged: AtomicU64,
+    idle: AtomicU64,
+    busy: AtomicU64,
+}
+
+impl Gate for Counts {
+    fn pass(&self, moment: Moment) {
+        let count = match moment {
+            Moment::Leased => &self.leased,
+            Moment::Judged => &self.judged,
+            Moment::Idle => &self.idle,
+            Moment::Busy => &self.busy,
+        };
+        count.fetch_add(1, Ordering::SeqCst);
+    }
+}
+
+/// Three towns whose search is not done after 1000 leases.
+const THREE_TOWNS: &str = "siting 1\nkind sum\npoint 0 0 3\npoint 900 7 4\npoint 311 800 5\n\
+    permit 0 0 900 0 900 900 0 900\nend\n";
+
+/// How often a team is run for its workers to meet at the turn.
+const RUNS: u32 = 100;
+
+#[test]
+fn each_moment_is_passed(rt: HostRuntime) -> Result<(), Fail> {
+    let line = "solve gap=0 budget=1000 workers=8";
+    for _ in 0..RUNS {
+        let gate = Counts {
+            leased: AtomicU64::new(0),
+            judged: AtomicU64::new(0),
+            idle: AtomicU64::new(0),
+            busy: AtomicU64::new(0),
+        };
+        let (status, sink) = run_gated(&rt, rt.alloc(), line, THREE_TOWNS, &gate)?;
+        assert_eq!(rt; status, Status::Budget);
+        let leases = gate.leased.load(Ordering::SeqCst);
+        assert_eq!(rt; gate.judged.load(Ordering::SeqCst), leases);
+        let wanted = format!(in rt.alloc(); "leases {leases}")?;
+        let answer = str::from_utf8(sink.bytes())?;
+        assert!(rt; answer.split('\n').any(|line| line == wanted.as_str()));
+        if gate.idle.load(Ordering::SeqCst) > 0 && gate.busy.load(Ordering::SeqCst) > 0 {
+            return Ok(());
+        }
+    }
+    assert!(rt; false, "no worker found the turn taken");
     Ok(())
 }

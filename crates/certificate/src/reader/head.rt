@@ -21,11 +21,8 @@ use answer_model::Head;
 use dyadic_square::Square;
 use port_io::Source;
 use site_model::{Instance, Site};
-use siting_definitions::Word;
+use siting_definitions::{BUDGET_LIMIT, GAP_LIMIT, POOL_LIMIT, Word};
 use std::alloc::Global;
-
-/// The greatest count in a head.
-const MOST: i64 = 1_000_000;
 
 /// Reads a line of a word and a number from `low` to `high`.
 fn read_number<S: Source>(
@@ -61,9 +58,9 @@ fn read_limits<S: Source>(lines: &mut AnswerLines, source: &mut S) -> Result<Lim
         (stream S.left S.faults S.is_strict lines.old source.old)
         (stream S.left S.faults S.is_strict lines.new source.new) result }
 {
-    let gap = read_number(lines, source, b"gap", 0, 1 << 62)?;
-    let budget = read_number(lines, source, b"budget", 0, MOST)?;
-    let pool = read_number(lines, source, b"pool", 1, MOST)?;
+    let gap = read_number(lines, source, b"gap", 0, GAP_LIMIT as i64)?;
+    let budget = read_number(lines, source, b"budget", 0, BUDGET_LIMIT as i64)?;
+    let pool = read_number(lines, source, b"pool", 1, POOL_LIMIT as i64)?;
     Ok(Limits {
         gap,
         budget: budget as u32,
@@ -139,8 +136,8 @@ fn read_outcome<S: Source>(lines: &mut AnswerLines, source: &mut S) -> Result<Ou
 {
     let bound = read_bound(lines, source)?;
     let word = read_word(lines, source)?;
-    let open_count = read_number(lines, source, b"open", 0, MOST)?;
-    let leases = read_number(lines, source, b"leases", 0, MOST)?;
+    let open_count = read_number(lines, source, b"open", 0, POOL_LIMIT as i64)?;
+    let leases = read_number(lines, source, b"leases", 0, BUDGET_LIMIT as i64)?;
     Ok(Outcome {
         bound,
         word,

@@ -17,15 +17,16 @@ pub(super) struct Limits {
 
 impl Model for Limits {
     ghost use Rattle.std.specs.Prelude.{pos, ◌≤ℤ◌, ◌≤◌};
-    ghost use Rattle.certificate.specs.Forms.{most_gap, most_count};
+    ghost use Rattle.siting_definitions.specs.declared.TheConstants.{GAP_LIMIT, BUDGET_LIMIT};
+    ghost use Rattle.siting_definitions.specs.declared.TheConstants.{POOL_LIMIT};
     ghost use Rattle.certificate.specs.HeadReading as heads;
 
     ghost Value = { heads.Limits };
 
     ghost view = { λ l. record { gap = l.gap; budget = l.budget; pool = l.pool } };
 
-    ghost invariant = { λ l. (pos 0 ≤ℤ l.gap) × (l.gap ≤ℤ pos most_gap)
-        × (l.budget ≤ most_count) × (1 ≤ l.pool) × (l.pool ≤ most_count) };
+    ghost invariant = { λ l. (pos 0 ≤ℤ l.gap) × (l.gap ≤ℤ pos GAP_LIMIT)
+        × (l.budget ≤ BUDGET_LIMIT) × (1 ≤ l.pool) × (l.pool ≤ POOL_LIMIT) };
 }
 
 /// The site with its costs, if there is one.
@@ -64,7 +65,7 @@ pub(super) struct Outcome {
 
 impl Model for Outcome {
     ghost use Rattle.std.specs.Prelude.{◌≤◌};
-    ghost use Rattle.certificate.specs.Forms.{most_count};
+    ghost use Rattle.siting_definitions.specs.declared.TheConstants.{BUDGET_LIMIT, POOL_LIMIT};
     ghost use Rattle.certificate.specs.HeadReading as heads;
 
     ghost Value = { heads.Outcome };
@@ -76,5 +77,5 @@ impl Model for Outcome {
       leases = o.leases;
     } };
 
-    ghost invariant = { λ o. (o.open_count ≤ most_count) × (o.leases ≤ most_count) };
+    ghost invariant = { λ o. (o.open_count ≤ POOL_LIMIT) × (o.leases ≤ BUDGET_LIMIT) };
 }

@@ -4,7 +4,8 @@ use Rattle.std.proofs.lemmas.Bool.{false≢true}
 use Rattle.siting_definitions.specs.Answer.{Head}
 use Rattle.discard_log.specs.declared.node.Node.{Node}
 use Rattle.resume_job.specs.declared.loading.LoadError.{LoadError}
-use Rattle.resume_job.specs.Loading.{LoadReadsAtMost, UnlessLoadReadFault, load_limit}
+use Rattle.resume_job.specs.Loading.{LoadReadsAtMost, UnlessLoadReadFault}
+use Rattle.siting_definitions.specs.declared.TheConstants.{LOAD_LIMIT}
 use Rattle.bsss_cli.specs.declared.status.Status.TheVariants.{Rejected, TooLong, ReadFault, NoMemory}
 use Rattle.bsss_cli.specs.Status.{code_of}
 use Rattle.bsss_cli.specs.Load.{loading}
@@ -52,7 +53,7 @@ returns-in-Err-Check g c =
     refl (λ h. absurd (false≢true h))
     (refused_read told left error status ensures.rest ensures.stop
     (rejected_all told left status (rejected_end told left error fault is ensures.loads))
-    (λ got stop. ReadsWithin-within load_limit got status
+    (λ got stop. ReadsWithin-within LOAD_LIMIT got status
     (subst (λ (x : LoadError). LoadReadsAtMost {T = Parts} (length got) (Err x)) is stop)))
     (refl, loads_rejected told left error fault is ensures.fault ensures.loads)
     c.say_rejected.ensures
@@ -76,7 +77,7 @@ returns-in-Err-TooLong g c =
     refl (λ h. absurd (false≢true h))
     (refused_read told left error status ensures.rest ensures.stop
     (for_told told (λ bytes fault e. absurd (not_rejected c.say.ensures fault e)))
-    (λ got stop. ReadsWithin-past load_limit got status (Says-something refl c.say.ensures)
+    (λ got stop. ReadsWithin-past LOAD_LIMIT got status (Says-something refl c.say.ensures)
     (subst (λ (x : LoadError). LoadReadsAtMost {T = Parts} (length got) (Err x)) is stop).1))
     (refl, loads_too_long told left error is ensures.loads)
     c.say.ensures
@@ -93,7 +94,7 @@ returns-in-Err-ReadFault g c =
     (ensures.read_fault (ap Err is))
     (refused_read told left error ReadFault ensures.rest ensures.stop
     (for_told told (λ bytes fault e. absurd (omega (arith, ap code_of e))))
-    (λ got stop. ReadsWithin-within load_limit got ReadFault
+    (λ got stop. ReadsWithin-within LOAD_LIMIT got ReadFault
     (subst (λ (x : LoadError). LoadReadsAtMost {T = Parts} (length got) (Err x)) is stop)))
 
 pub returns-in-Err-NoMemory : goal.returns-in-Err-NoMemory
@@ -113,5 +114,5 @@ returns-in-Err-NoMemory g c =
     })
     (refused_read told left error NoMemory ensures.rest ensures.stop
     (for_told told (λ bytes fault e. absurd (omega (arith, ap code_of e))))
-    (λ got stop. ReadsWithin-within load_limit got NoMemory
+    (λ got stop. ReadsWithin-within LOAD_LIMIT got NoMemory
     (subst (λ (x : LoadError). LoadReadsAtMost {T = Parts} (length got) (Err x)) is stop)))

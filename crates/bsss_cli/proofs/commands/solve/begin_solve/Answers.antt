@@ -4,7 +4,7 @@ use Rattle.std.proofs.lemmas.Bool.{false≢true}
 use Rattle.port_io.specs.Whole.{ReadsAtMost, UnlessReadFault}
 use Rattle.bsss_cli.specs.declared.status.Status.{Status}
 use Rattle.bsss_cli.specs.declared.status.Status.TheVariants.{TooLong}
-use Rattle.bsss_cli.specs.Texts.{instance_limit}
+use Rattle.siting_definitions.specs.declared.TheConstants.{INSTANCE_LIMIT}
 use Rattle.bsss_cli.specs.Outcome.{HasRead}
 use Rattle.bsss_cli.specs.Solve.{solve}
 use Rattle.bsss_cli.specs.Begun.{SaysInstance}
@@ -22,9 +22,9 @@ returns-in-Ok g c =
     let all : IfSome told (λ (xs : List ℕ). c.as_slice.result.now ≡ xs) =
     rw c.as_slice.ensures.value ensures.bytes in
     let stops : (status : Status) → IfSome told (λ (xs : List ℕ). HasRead (solve s) told left status) =
-    λ status. has_read (solve s) (λ n. ReadsAtMost instance_limit n (Ok c.in-Ok.bytes)) told left
+    λ status. has_read (solve s) (λ n. ReadsAtMost INSTANCE_LIMIT n (Ok c.in-Ok.bytes)) told left
     status ensures.rest ensures.stop
-    (λ got few. ReadsWithin-within instance_limit got status few) in
+    (λ got few. ReadsWithin-within INSTANCE_LIMIT got status few) in
     MatchResult-map c.begin_text.result
     (λ _ begun. (
       begun.0,
@@ -58,9 +58,9 @@ returns-in-Err-TooLong g c =
       heard = λ strict e. subst (λ x. UnlessReadFault x quiet) is (ensures.heard strict);
     })
     refl (λ h. absurd (false≢true h))
-    (has_read (solve s) (λ n. ReadsAtMost instance_limit n c.read_up_to.result) told left
+    (has_read (solve s) (λ n. ReadsAtMost INSTANCE_LIMIT n c.read_up_to.result) told left
     c.say.result ensures.rest ensures.stop
-    (λ got stopped. ReadsWithin-past instance_limit got c.say.result
+    (λ got stopped. ReadsWithin-past INSTANCE_LIMIT got c.say.result
     (Says-something refl c.say.ensures)
-    (subst (λ x. ReadsAtMost instance_limit (length got) x) is stopped).1))
+    (subst (λ x. ReadsAtMost INSTANCE_LIMIT (length got) x) is stopped).1))
     (refl, ensures.too_long is) c.say.ensures

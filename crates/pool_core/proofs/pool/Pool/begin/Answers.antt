@@ -19,10 +19,10 @@ root_waits j root bound other old new at is same empty h =
     let alone : IsPermutation (entry root other ∷ []) new = rw empty at h in
     one_order (entry root other) new alone ∙ ap (λ (b : ℤ). entry root b ∷ []) (same ∙ is) ∙ ap (λ (s : Square). entry s (coarse_of j.instance s) ∷ []) at
 
-after : goal.After-new → Inside
-after c = record { job = c.in_ok-job.job; waiting = c.push.new.self; leased = c.in_ok-leased.leased; log = c.in_ok-log.log; history = c.new.result; leases = 0; kept = 0; stop = None; begun_nodes = 0; begun_raised = 0; begun_leases = 0 }
+after : goal.After-push → Inside
+after c = record { job = c.in_ok-job.job; waiting = c.push.new.self; leased = c.in_ok-leased.leased; log = c.in_ok-log.log; fine_bounds = c.in_ok-fine_bounds.fine_bounds; leases = 0; kept = 0; stop = None; begun_nodes = 0; begun_raised = 0; begun_leases = 0 }
 
-begins : (c : goal.After-new) → IsBeginning (job_of c.job.inside) (after c)
+begins : (c : goal.After-push) → IsBeginning (job_of c.job.inside) (after c)
 unfolding after
 begins c =
     let fits : FitsSigned w64 c.coarse-bound.result = search rules in
@@ -35,7 +35,8 @@ begins c =
       leased = c.in_ok-leased.ensures.0;
       capacity = c.in_ok-leased.ensures.1;
       log = c.in_ok-log.ensures;
-      history = c.new.ensures;
+      fine_bounds = c.in_ok-fine_bounds.ensures.0;
+      bounds_capacity = c.in_ok-fine_bounds.ensures.1;
       leases = refl;
       kept = refl;
       stop = refl;

@@ -5,7 +5,7 @@ use Rattle.discard_log.specs.declared.node.Node.{Node}
 use Rattle.pool_core.specs.declared.pool.Pool.TheInside.{Inside}
 use Rattle.pool_core.specs.Job.{Job}
 use Rattle.pool_core.specs.JobFields.{job_of}
-use Rattle.pool_core.specs.Begun.{IsBegunFrom, IsResumable, closed_nodes}
+use Rattle.pool_core.specs.Begun.{IsBegunFrom, IsResumable}
 use Rattle.pool_core.specs.Pool.{state_of}
 use Rattle.pool_core.proofs.BegunLemmas.{waiting_count, closed_length}
 use Rattle.pool_core.proofs.Resumed.{IsBegun, begun_fits, begun_state}
@@ -22,7 +22,7 @@ overflow_sub-result c =
     omega (arith, closed_length c.nodes-nodes.result.now, left, c.len-open.ensures)
 
 after : goal.After-len-open → Inside
-after c = record { job = c.in_ok-job.job; waiting = c.sort_out.new.waiting; leased = c.in_ok-leased.leased; log = c.sort_out.new.log; history = c.of-history.result; leases = c.args.leases; kept = 0; stop = None; begun_nodes = length c.nodes-nodes.result.now - c.len-open.result; begun_raised = c.len-open.result; begun_leases = c.args.leases }
+after c = record { job = c.in_ok-job.job; waiting = c.sort_out.new.waiting; leased = c.in_ok-leased.leased; log = c.sort_out.new.log; fine_bounds = c.in_ok-fine_bounds.fine_bounds; leases = c.args.leases; kept = 0; stop = None; begun_nodes = length c.nodes-nodes.result.now - c.len-open.result; begun_raised = c.len-open.result; begun_leases = c.args.leases }
 
 begins : (c : goal.After-len-open) → IsBegun (job_of c.job.inside) c.nodes-nodes.result.now c.args.leases (after c)
 unfolding after
@@ -35,7 +35,8 @@ begins c =
       leased = c.in_ok-leased.ensures.0;
       capacity = c.in_ok-leased.ensures.1;
       nodes = c.sort_out.ensures.nodes;
-      history = c.of-history.ensures ∙ ap closed_nodes (sym c.nodes-nodes.ensures);
+      fine_bounds = c.in_ok-fine_bounds.ensures.0;
+      bounds_capacity = c.in_ok-fine_bounds.ensures.1;
       log_room = c.sort_out.ensures.log_room ∙ ap (λ (l : LogView). l.spare) c.in_ok-log.ensures;
       leases_are = refl;
       kept = refl;

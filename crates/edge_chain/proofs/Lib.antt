@@ -1,0 +1,13 @@
+pub mod Vectors
+pub mod WindingLemmas
+pub mod CoverLemmas
+pub mod LimitLemmas
+pub mod HalfPlaneLemmas
+pub mod PartingLemmas
+pub mod PieceLemmas
+pub mod ClearLemmas
+pub mod EdgeLoops
+pub mod SortLemmas
+pub mod CancelLemmas
+pub mod ApartLemmas
+pub mod CornerLemmas

@@ -1,0 +1,9 @@
+pub mod Thirds
+pub mod Limits
+pub mod Chain
+pub mod Triangle
+pub mod Limit
+pub mod Piece
+pub mod Line
+pub mod Wanted
+pub mod Order
