@@ -1,0 +1,1 @@
+"""All that a planner has to trust beside `bsss`: exact tests and charges, in whole numbers and fractions."""

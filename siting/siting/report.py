@@ -1,0 +1,279 @@
+"""What was found, in words and in figures: report.txt, report.json, and the texts of every tile."""
+
+import json
+import os
+from collections import Counter
+from dataclasses import asdict
+from fractions import Fraction
+from math import ceil, floor
+from pathlib import Path
+from typing import Any
+
+import numpy as np
+import pyproj
+
+from .compare import digests
+from .exact.frame import GRID
+from .layers import by_area, write_areas
+from .maps import write_page
+from .problem import Problem
+from .reading import Read
+from .tiles import Run, Search
+
+WITHIN, WIDER, NO_SITE = "within", "wider", "no site"
+STATUS = {WITHIN: 0, WIDER: 1, NO_SITE: 4}
+
+
+def decimal(value: Fraction, places: int, up: bool = False) -> str:
+    """A number with so many places, rounded down, or up."""
+    scaled = value * 10**places
+    whole = ceil(scaled) if up else floor(scaled)
+    sign, digits = "-" if whole < 0 else "", str(abs(whole)).rjust(places + 1, "0")
+    return f"{sign}{digits[:-places]}.{digits[-places:]}"
+
+
+def thousands(value: Fraction) -> str:
+    """A large number for readers: rounded, with its thousands set apart."""
+    return f"{round(value):,}".replace(",", " ")
+
+
+class Report:
+    """All that is said of a search that has ended."""
+
+    def __init__(self, read: Read, search: Search, within: Fraction):
+        self.read, self.search = read, search
+        self.problem: Problem = read.problem
+        self.metres = self.problem.unit
+        site, bound = search.site, search.bound()
+        self.bound = None if bound is None else bound * self.metres
+        self.cost = None if site is None else (site.low * self.metres, site.high * self.metres)
+        self.answer = NO_SITE if self.bound is None else WIDER
+        self.gap: Fraction | None = None
+        if self.cost is not None and self.bound is not None:
+            size = abs(self.cost[1])
+            self.gap = (self.cost[1] - self.bound) / size * 100 if size else None
+            if self.cost[1] - self.bound <= size * within / 100:
+                self.answer = WITHIN
+
+    @property
+    def status(self) -> int:
+        return STATUS[self.answer]
+
+    # the figures
+
+    def charges(self) -> dict[str, Fraction]:
+        """Where the difference between cost and bound comes from, in weight times metres."""
+        runs = [run for run in self.search.runs if run.least is not None and not run.cut]
+        if not runs or self.cost is None or self.bound is None:
+            return {}
+        weakest = min(runs, key=lambda run: run.least.value if run.least else 0)
+        assert weakest.least is not None
+        unit = self.search.unit * self.metres
+        named = {
+            "positions": weakest.least.charge.rounded * unit,
+            "joined": weakest.least.charge.joined * unit,
+            "cutoffs": weakest.least.charge.cutoffs * unit,
+            "weights": weakest.least.charge.weights * unit,
+            "borders": Fraction(0),
+            "ground": Fraction(0),
+        }
+        return {"search": self.cost[1] - self.bound - sum(named.values()), **named}
+
+    def place(self) -> dict[str, Any] | None:
+        """The site, in the layers' own coordinates and in WGS 84."""
+        site, crs = self.search.site, self.read.crs
+        if site is None:
+            return None
+        found = {
+            "crs": crs_name(crs),
+            "x": repr(site.x),
+            "y": repr(site.y),
+            "lon": None,
+            "lat": None,
+        }
+        if crs is not None:
+            to_degrees = pyproj.Transformer.from_crs(crs, "EPSG:4326", always_xy=True)
+            found["lon"], found["lat"] = (round(float(value), 8) for value in to_degrees.transform(site.x, site.y))
+        return found
+
+    def neighbours(self, count: int = 5) -> dict[str, list[dict[str, Any]]]:
+        """The nearest and the farthest towns, with their distances in metres."""
+        site, land = self.search.site, self.search.landscape
+        if site is None:
+            return {}
+        ways = np.hypot(land.x - site.x, land.y - site.y)
+        order = np.argsort(ways, kind="stable")
+
+        def town(number: int) -> dict[str, Any]:
+            metres = float(ways[number]) * float(self.metres)
+            return {"name": self.problem.names[number], "metres": round(metres, 3)}
+
+        return {
+            "nearest": [town(int(n)) for n in order[:count]],
+            "farthest": [town(int(n)) for n in order[::-1][:count]],
+        }
+
+    def tiles(self) -> list[dict[str, Any]]:
+        """The tiles in the order of their solving, with the names of their texts."""
+        numbers = {id(run): number for number, run in enumerate(self.search.runs, 1)}
+        unit = self.search.unit * self.metres
+        rows = []
+        for number, run in enumerate(self.search.runs, 1):
+            row: dict[str, Any] = {"tile": number, "box": self.box(run)}
+            if run.solved:
+                row |= {"instance": f"{number}.siting", "answer": f"{number}.answer"}
+            row["bound"] = None if run.least is None else decimal(run.least.value * unit, 6)
+            if run.parts:
+                row["parts"] = [numbers[id(part)] for part in run.parts]
+                row["cut"] = run.cut
+            rows.append(row)
+        return rows
+
+    def box(self, run: Run) -> list[float]:
+        """A tile's box in the layers' plane."""
+        low = self.search.to_doubles(run.tile[0], run.tile[1])
+        high = self.search.to_doubles(run.tile[2], run.tile[3])
+        return [*low, *high]
+
+    def share(self) -> Fraction | None:
+        """The gap as a share of the sum of all weights times distances, in per cent."""
+        site = self.search.site
+        if site is None or self.cost is None or self.bound is None:
+            return None
+        size = Fraction(self.search.landscape.size(site.x, site.y)) * self.metres
+        return (self.cost[1] - self.bound) / size * 100 if size else None
+
+    def figures(self) -> dict[str, Any]:
+        """report.json."""
+        left_out: Counter[str] = self.read.left_out
+        gap, share = self.gap, self.share()
+        near = self.search.near_area(Fraction(1)) if self.cost else None
+        return {
+            "question": self.problem.question.word,
+            "kind": self.problem.question.kind,
+            "answer": self.answer,
+            "site": self.place(),
+            "distance": "grid",
+            "cost": self.cost and [decimal(self.cost[0], 6), decimal(self.cost[1], 6, up=True)],
+            "bound": None if self.bound is None else decimal(self.bound, 6),
+            "gap_percent": None if gap is None else float(decimal(gap, 6, up=True)),
+            "gap_share_percent": None if share is None else float(decimal(share, 6, up=True)),
+            "charges": {name: round(float(value), 6) for name, value in self.charges().items()},
+            "towns": {
+                "read": self.read.read,
+                "used": len(self.problem.towns.weights),
+                "left_out": dict(left_out),
+            },
+            "near_set": None if near is None else {"percent": 1, "square_metres_at_most": near},
+            **self.neighbours(),
+            "from": os.getcwd(),
+            "asked": self.asked(),
+            "digests": digests(self.read.asked),
+            "frame": self.search.frame,
+            "tiles": self.tiles(),
+        }
+
+    def asked(self) -> dict[str, Any]:
+        """The words of the command, for an audit and to compare."""
+        lengths = {"grow": self.read.asked.grow, "keep_off": self.read.asked.keep_off}
+        return asdict(self.read.asked) | {name: value and str(value) for name, value in lengths.items()}
+
+    # the words
+
+    def headline(self) -> str:
+        """The question, and how good the site is."""
+        title = self.problem.question.title
+        known = "no site" if self.answer == NO_SITE else "no site found within the limits"
+        if self.gap is not None:
+            known = f"at most {decimal(self.gap, 4, up=True)} % from the best possible site"
+        return f"{title}; {known}"
+
+    def text(self, figures: dict[str, Any]) -> str:
+        """report.txt."""
+        lines = [self.problem.question.title, ""]
+        if self.answer == NO_SITE:
+            return "\n".join([*lines, "No point is permitted: no site.", ""])
+        lines += self.site_lines(figures) + self.difference_lines() + self.town_lines(figures)
+        return "\n".join([*lines, ""])
+
+    def site_lines(self, figures: dict[str, Any]) -> list[str]:
+        site = figures["site"]
+        if site is None or self.cost is None or self.bound is None:
+            return [
+                "No permitted site was found within the limits; the bound stands in report.json.",
+                "",
+            ]
+        lines = [f"Site: {site['x']}, {site['y']} ({site['crs']})"]
+        if site["lon"] is not None:
+            lines.append(f"  longitude {site['lon']:.6f}, latitude {site['lat']:.6f} (WGS 84)")
+        low, high = (thousands(value) for value in self.cost)
+        lines += [
+            "",
+            f"Cost: {high if low == high else f'{low} to {high}'} weight times metres, grid distance",
+            f"No permitted point costs less than {thousands(self.bound)}",
+        ]
+        if self.gap is not None:
+            lines.append(f"So the site is at most {decimal(self.gap, 4, up=True)} % from the best")
+        if self.problem.question.sign == 0:
+            share = decimal(self.share() or Fraction(0), 6, up=True)
+            lines.append(f"  and {share} % of all weight times distance, which counts where weights cancel")
+        near = figures["near_set"]
+        if near is not None:
+            area = near["square_metres_at_most"] / 1e6
+            lines.append(f"Sites within 1 % of it cover at most {area:,.3f} square kilometres")
+        names = " and ".join(f"{name}.geojson" for name in self.read.made)
+        if names:
+            lines.append(f"All of this is for places outside the areas in {names}, as written")
+        return [*lines, ""]
+
+    def difference_lines(self) -> list[str]:
+        if self.cost is None:
+            return []
+        size = abs(self.cost[1]) or Fraction(1)
+        lines = ["Where the difference comes from, in per cent of the cost:"]
+        for name, value in self.charges().items():
+            lines.append(f"  {name:<10} {float(value / size) * 100:10.6f}")
+        return [*lines, ""]
+
+    def town_lines(self, figures: dict[str, Any]) -> list[str]:
+        towns = figures["towns"]
+        lines = [f"Towns: {towns['read']} read, {towns['used']} used"]
+        lines += [f"  left out, {reason}: {count}" for reason, count in towns["left_out"].items()]
+        for word in ("nearest", "farthest"):
+            for town in figures.get(word, []):
+                lines.append(f"  {word}: {town['name']}, {town['metres'] / 1000:.3f} km")
+        return lines
+
+    def write(self, folder: Path, maps: bool) -> None:
+        """Writes the reports, with maps or without, and the texts of every tile into a folder that is there."""
+        figures = self.figures()
+        text = self.text(figures)
+        (folder / "report.json").write_text(json.dumps(figures, indent=1) + "\n")
+        (folder / "report.txt").write_text(text)
+        if maps:
+            write_page(self.search, self.headline(), text, folder)
+        for name, rings in self.read.made.items():
+            write_areas(folder / f"{name}.geojson", by_area(rings), crs_name(self.read.crs))
+        for number, run in enumerate(self.search.runs, 1):
+            (folder / f"{number}.proof.json").write_text(json.dumps(proof_of(run)) + "\n")
+            if run.solved:
+                (folder / f"{number}.siting").write_text(run.solved.instance)
+                (folder / f"{number}.answer").write_text(run.solved.text)
+
+
+def proof_of(run: Run) -> dict[str, Any]:
+    """What an audit needs of a tile beside its answer: its box, pieces and triangles in fine units, its groups."""
+    pieces = {"permits": run.outer.permits, "forbids": run.outer.forbids}
+    triangles = [[*a, *b, *c, owner] for a, b, c, owner in run.outer.triangles]
+    proof: dict[str, Any] = {"box": run.tile, **pieces, "triangles": triangles}
+    if run.solved:
+        proof |= {"groups": run.solved.groups, "scale": run.solved.charges.scale}
+    return proof
+
+
+def crs_name(crs: pyproj.CRS | None) -> str | None:
+    """The authority's name of a reference system, such as EPSG:25832, or its own."""
+    if crs is None:
+        return None
+    authority = crs.to_authority()
+    return ":".join(authority) if authority else str(crs.name)
