@@ -7,9 +7,11 @@ use Rattle.cert_checker.specs.declared.checking.Accepted.{Accepted as Said}
 use Rattle.cert_checker.specs.declared.faults.CheckFault.{CheckFault}
 use Rattle.cert_checker.specs.declared.faults.CheckError.{CheckError}
 use Rattle.cert_checker.specs.declared.faults.CheckError.TheVariants as errors
-use Rattle.cert_checker.specs.Checking.{checking}
+use Rattle.certificate.specs.Beginnings.{nothing_read}
+use Rattle.cert_checker.specs.Checking.{check_in, checking}
 use Rattle.cert_checker.specs.CheckReading.{CheckRead, IsNeededSoFar, IsSettled, UnlessCheckReadFault}
-use Rattle.pair_check.specs.BatchReading.{BatchesRead, UnlessFault}
+use Rattle.pair_check.specs.BatchReading.{BatchesRead, IsAheadSoFar, UnlessFault}
+use Rattle.pair_check.proofs.AheadLemmas.{none_ahead}
 use Rattle.cert_checker.specs.Steps.{ChecksTo}
 use Rattle.cert_checker.proofs.ValidLemmas.{accepted-valid, valid-accepted}
 use Rattle.answer_model.proofs.ClaimsLemmas.{claims}
@@ -69,7 +71,12 @@ too_long_said (Some bytes) left h read = h
 -- what was read by one worker settles the answer, as what was read by a team does
 pub as_read : (told left : Option (List ℕ)) (r : Result Said CheckError) → CheckRead told left r
     → BatchesRead told left r
-as_read told left r read = record { got = read.got; consumes = read.consumes; says = read.says }
+as_read told left r read = record {
+  got = read.got;
+  consumes = read.consumes;
+  ahead = none_ahead check_in nothing_read read.got read.needed;
+  says = read.says;
+}
 
 -- where something was to be written, one worker read no more than it needed
 needed-stops : (got : List ℕ) (status : Status) → (meaning_of status).taken ≢ Nothing
@@ -90,10 +97,10 @@ read_as_needed (Some bytes) left r status something read = record {
 
 -- a team may have read ahead
 ahead-stops : (got : List ℕ) (status : Status) → (meaning_of status).taken ≢ Nothing
-    → CheckStops true got status
-ahead-stops got ReadFault something = absurd (something refl)
-ahead-stops got NoMemory something = absurd (something refl)
-ahead-stops got status something = tt
+    → IsAheadSoFar got → CheckStops true got status
+ahead-stops got ReadFault something ahead = absurd (something refl)
+ahead-stops got NoMemory something ahead = absurd (something refl)
+ahead-stops got status something ahead = ahead
 
 pub read_ahead : (told left : Option (List ℕ)) (r : Result Said CheckError) (status : Status)
     → (meaning_of status).taken ≢ Nothing → BatchesRead told left r
@@ -102,7 +109,7 @@ read_ahead None left r status something read = tt
 read_ahead (Some bytes) left r status something read = record {
   got = read.got;
   consumed = read.consumes;
-  stops = ahead-stops read.got status something;
+  stops = ahead-stops read.got status something read.ahead;
 }
 
 -- where a verdict tells of reads: a team may have read on after a fault

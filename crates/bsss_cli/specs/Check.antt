@@ -1,5 +1,5 @@
 -- What a check answers.
-use Rattle.std.specs.Prelude.{◌≡◌, ℕ, Bool, true, false, List, Option, IfSome, Result, Ok, Err, ⊤}
+use Rattle.std.specs.Prelude.{◌≡◌, ℕ, Bool, true, false, List, Option, IfSome, Result, Ok, Err}
 use Rattle.siting_definitions.specs.AnswerText.{answer_text}
 use Rattle.siting_definitions.specs.Answer.{Answer, IsValid}
 use Rattle.siting_definitions.specs.Claims.{Claims}
@@ -8,6 +8,7 @@ use Rattle.cert_checker.specs.declared.faults.CheckError.{CheckError}
 use Rattle.cert_checker.specs.declared.faults.CheckError.TheVariants as errors
 use Rattle.cert_checker.specs.Checking.{checking}
 use Rattle.cert_checker.specs.CheckReading.{IsOpenSoFar, IsNeededSoFar, IsInHead}
+use Rattle.pair_check.specs.BatchReading.{IsAheadSoFar}
 use Rattle.bsss_cli.specs.declared.status.Status.{Status}
 use Rattle.bsss_cli.specs.declared.status.Status.TheVariants.{Accepted, Rejected, TooLong}
 use Rattle.bsss_cli.specs.declared.status.Status.TheVariants.{ReadFault, NoMemory}
@@ -49,12 +50,12 @@ CheckWants told status =
 
 -- How much of its source a check read. Where reading failed, there was no fault so far; only the
 -- head takes memory; and one worker reads no more than its first fault needs, where a team reads
--- ahead.
+-- at most a batch of lines and a piece ahead.
 abbrev pub CheckStops : (team : Bool) → List ℕ → Status → Type 0
 CheckStops team got ReadFault = IsOpenSoFar got
 CheckStops team got NoMemory = IsInHead got
 CheckStops false got status = IsNeededSoFar got
-CheckStops true got status = ⊤
+CheckStops true got status = IsAheadSoFar got
 
 -- what a check promises by one worker, or by a team of two or more
 abbrev pub check : (team : Bool) → Promise

@@ -54,7 +54,7 @@ pub formed-next : {T : Type 0} (form : List ℕ → Option T) (r : Coming) (v : 
 formed-next form r v after e = next_is form r v after r.input.lines refl e
 
 -- ---- the lines of an input
-onto_lines-length : (b : ℕ) (lines : List (List ℕ)) (i : Input) → i.lines ≡ lines → length (onto_lines b lines i).lines ≡ length i.lines
+pub onto_lines-length : (b : ℕ) (lines : List (List ℕ)) (i : Input) → i.lines ≡ lines → length (onto_lines b lines i).lines ≡ length i.lines
 onto_lines-length b [] i e = refl
 onto_lines-length b (line ∷ lines) i e = sym (ap length e)
 

@@ -1,13 +1,17 @@
 -- A batch, line by line.
-use Rattle.std.proofs.Common.{◌≡◌, ℕ, ◌+◌, ◌-◌, ◌<◌, ◌≤◌, ◌^◌, Bool, false, List, [], ◌∷◌, ◌++◌, map, length, Option, None, Some, Result, Ok, Err, refl, sym, ap, ◌∙◌, inl, subst, arith}
-use Rattle.std.specs.Prelude.{MatchOption, slice_get}
+use Rattle.std.proofs.Common.{◌≡◌, ℕ, ◌+◌, ◌-◌, ◌<◌, ◌≤◌, ◌^◌, Bool, false, true, List, [], ◌∷◌, ◌++◌, map, length, Option, None, Some, Result, Ok, Err, refl, sym, ap, ◌∙◌, inl, inr, subst, arith, append_assoc}
+use Rattle.std.specs.Prelude.{MatchOption, slice_get, ⊤}
+use Rattle.std.specs.Io.KnownBytes.{Consumes}
+use Rattle.std.proofs.lemmas.List.{length-append}
+use Rattle.port_io.proofs.SourceLemmas.{Consumes-then}
 use Rattle.siting_definitions.specs.declared.Mark.{Mark}
 use Rattle.siting_definitions.specs.Square.{Square}
 use Rattle.siting_definitions.specs.Sites.{root_of}
 use Rattle.siting_definitions.specs.Marks.{Tally, is_split, tally_of}
 use Rattle.siting_definitions.specs.Answer.{Head}
 use Rattle.line_stream.specs.Coming.{Coming}
-use Rattle.line_stream.specs.Stream.{Stream, coming_in}
+use Rattle.line_stream.specs.Stream.{Stream, AreTaken, IsCalm, IsNeeded, coming_in}
+use Rattle.line_stream.proofs.LineLemmas.{Consumes-none, calm-none, calm-then, needed-kept, needed-last}
 use Rattle.certificate.specs.declared.reader.AnswerError.{AnswerError}
 use Rattle.certificate.specs.declared.reader.Item.{Item}
 use Rattle.certificate.specs.declared.reader.Item.TheVariants.{Node as NodeItem, End}
@@ -20,22 +24,23 @@ use Rattle.discard_log.specs.Nodes.{mark_of}
 use Rattle.answer_model.specs.Tally.{AreSmall, tally_sum}
 use Rattle.cert_checker.specs.declared.faults.CheckFault.{CheckFault}
 use Rattle.cert_checker.specs.declared.faults.CheckError.{CheckError}
-use Rattle.cert_checker.specs.declared.faults.CheckError.TheVariants.{Fault}
+use Rattle.cert_checker.specs.declared.faults.CheckError.TheVariants.{Fault, NoMemory, ReadFault, TooLong}
 use Rattle.cert_checker.specs.declared.checking.Accepted.{Accepted}
 use Rattle.cert_checker.specs.Faults.{mark_fault_of, or_else}
-use Rattle.cert_checker.specs.Checking.{Progress, error_of, unless_fault, items_of, progress_after}
+use Rattle.cert_checker.specs.Checking.{Progress, at_item, error_of, unless_fault, items_of, progress_after, read_ok}
 use Rattle.cert_checker.specs.Walking.{CanStep, squares_after}
-use Rattle.cert_checker.specs.CheckReading.{after_root, at_last}
+use Rattle.cert_checker.specs.CheckReading.{IsPast, after_root, at_last}
 use Rattle.cert_checker.proofs.FaultLemmas.{can_step}
-use Rattle.cert_checker.proofs.ReadLemmas.{part_read, part_error}
+use Rattle.cert_checker.proofs.ReadLemmas.{part_error, past_stopped}
 use Rattle.cert_checker.proofs.StepLemmas.{IsWithin, fewer, formed-next, few_lines, item_at, items_at, items_begin, take_mark-then}
 use Rattle.cert_checker.proofs.ItemLemmas.{joined-assoc, joined-nothing}
 use Rattle.pair_check.specs.declared.batch.Batch.{Batch}
-use Rattle.pair_check.specs.Batches.{Closes, TakesItem, batch_says, batch_says_with, progress_past, says, says_with, tally_with}
-use Rattle.pair_check.specs.BatchReading.{IsReadTo, IsStoppedAt}
+use Rattle.pair_check.specs.Batches.{Closes, Grows, TakesItem, batch_says, batch_says_with, progress_past, says, says_with, tally_with}
+use Rattle.pair_check.specs.BatchReading.{IsStoppedAt}
 use Rattle.pair_check.specs.Lines.{lines_fault}
 use Rattle.pair_check.proofs.LineLemmas.{lines_fault-more, tally-append}
-use Rattle.pair_check.proofs.ReadingLemmas.{of_past, of_stopped, read_nothing, read_as, read_then, read_stopped, read_fault}
+use Rattle.pair_check.proofs.AheadLemmas.{IsBatchRead, ahead_read, batch_begins, batch_more}
+use Rattle.pair_check.proofs.ReadingLemmas.{of_stopped}
 
 -- ---- faults
 unless_or : {T : Type 0} (a b : Option CheckFault) (r : Result T CheckError) → unless_fault a (unless_fault b r) ≡ unless_fault (or_else a b) r
@@ -124,18 +129,29 @@ tally-empty b t empty tally = ap (λ (l : List Node). tally_sum b.tally (tally_o
 -- ---- the loop
 -- what was wanted of the answer is what a batch says, and no more lines come than there are turns left
 pub record IsHalfway (h : Head) (start now : Stream) (above : ℕ) (ns : List Node) (squares : List Square) (t : Tally) (turns : ℕ) : Type 0 where
-  pub past : IsReadTo (after_root h) (says h above ns squares t) start now
+  pub got : List ℕ
+  pub consumes : Consumes start.left now.left got
+  pub same : (more : Bool) (rest : List ℕ) → after_root h (coming_in more answer_limit start.lines (got ++ rest)) ≡ says h above ns squares t (coming_in more answer_limit now.lines rest)
+  pub count : AreTaken start.lines now.lines got
+  pub calm : IsCalm start now
+  pub needed : lines_fault h above ns ≡ None → IsNeeded answer_limit (after_root h) TooLong start.lines got
+  pub ahead : IsBatchRead (after_root h) start now got (length ns)
   pub few : (more : Bool) (rest : List ℕ) → length (coming_in more answer_limit now.lines rest).input.lines + turns ≤ 2 ^ 30
 
 -- before the first line
 pub halfway_begins : (h : Head) (start : Stream) (above : ℕ) (ns : List Node) (squares : List Square) (t : Tally) → ns ≡ [] → squares ≡ root_of h.instance ∷ [] → t ≡ tally_of [] → IsHalfway h start start above ns squares t 0
 halfway_begins h start above ns squares t en es et = record {
-  past = read_as _ _ _ start start (read_nothing (after_root h) start)
-      (λ more rest.
+  got = [];
+  consumes = Consumes-none start.left;
+  same = λ more rest.
       let r = coming_in more answer_limit start.lines rest in
       ap (λ (k : Tally). items_at h (root_of h.instance ∷ []) k r) (sym (ap (λ (k : Tally). tally_sum k (tally_of [])) et ∙ joined-nothing (tally_of [])))
       ∙ ap (λ (l : List Square). says h above [] l t r) (sym es)
-      ∙ ap (λ (l : List Node). says h above l squares t r) (sym en));
+      ∙ ap (λ (l : List Node). says h above l squares t r) (sym en);
+  count = omega arith;
+  calm = calm-none start;
+  needed = λ _. inl refl;
+  ahead = subst (IsBatchRead (after_root h) start start []) (sym (ap length en)) (batch_begins (after_root h) start start [] (inl refl));
   few = λ more rest. omega (arith, few_lines (answer_limit - start.lines.read) (start.lines.ahead ++ rest));
 }
 
@@ -143,31 +159,112 @@ halfway_begins h start above ns squares t en es et = record {
 pub next_line : (now after : Stream) (item : Item) → Read (formed item_form) now after (Ok item) → after.lines.line ≡ now.lines.line + 1
 next_line now after item read = ap (λ (r : Coming). r.line) (formed-next item_form (coming_in false answer_limit now.lines (read.got ++ [])) item (coming_in false answer_limit after.lines []) (read.reads false [])).rest
 
+-- what isn't a fault
+abbrev IsNoFault : Result Accepted CheckError → Type 0
+IsNoFault (Ok accepted) = ⊤
+IsNoFault (Err (Fault fault)) = ⊥
+IsNoFault (Err TooLong) = ⊤
+IsNoFault (Err ReadFault) = ⊤
+IsNoFault (Err NoMemory) = ⊤
+
+-- where something else is said than a fault, there is none
+is_clear : (o : Option CheckFault) (x y : Result Accepted CheckError) → unless_fault o x ≡ y → IsNoFault y → o ≡ None
+is_clear None x y says other = refl
+is_clear (Some fault) x y says other = absurd (subst IsNoFault (sym says) other)
+
+-- what comes after this line where no more was read yet, or where the input ends
+abbrev bare : Bool → ℕ → Coming
+bare goes_on line = record { input = record { lines = []; partial = []; goes_on = goes_on }; line = line }
+
 module _ (h : Head) (start now after : Stream) (above : ℕ) (ns : List Node) (squares : List Square) (t : Tally) (turns : ℕ) (half : IsHalfway h start now above ns squares t turns) where
   -- an item was read
-  item_came : (item : Item) → Read (formed item_form) now after (Ok item) → IsReadTo (after_root h) (says_with h above ns squares t item) start after
-  item_came item read =
+  item_says : (item : Item) (read : Read (formed item_form) now after (Ok item)) (more : Bool) (rest : List ℕ)
+      → after_root h (coming_in more answer_limit start.lines ((half.got ++ read.got) ++ rest)) ≡ says_with h above ns squares t item (coming_in more answer_limit after.lines rest)
+  item_says item read more rest =
       let k = (progress_past ns squares t).tally in
-      let came = of_past _ _ _ _ (part_read false (items_at h squares k) (formed item_form) (item_at h squares k) (items_begin h squares k) now after item read) in
-      read_then (after_root h) (says h above ns squares t) start now after half.past (says_with h above ns squares t item)
-      (record { got = came.got; consumes = came.consumes; same = λ more rest. ap (unless_fault (lines_fault h above ns)) (came.same more rest); count = came.count; calm = came.calm })
+      ap (λ l. after_root h (coming_in more answer_limit start.lines l)) (append_assoc half.got read.got rest)
+      ∙ half.same more (read.got ++ rest)
+      ∙ ap (unless_fault (lines_fault h above ns))
+      (items_begin h squares k (coming_in more answer_limit now.lines (read.got ++ rest))
+      ∙ ap (λ x. read_ok x (λ n. item_at h squares k n.0 n.1)) (read.reads more rest))
+
+  -- where no line of the batch has a fault, all that was read was needed
+  needed_more : lines_fault h above ns ≡ None → (got : List ℕ) → IsNeeded answer_limit (formed item_form) TextTooLong now.lines got → IsNeeded answer_limit (after_root h) TooLong start.lines (half.got ++ got)
+  needed_more clear got (inl none) = needed-kept answer_limit (after_root h) TooLong start.lines half.got got none (half.needed clear)
+  needed_more clear got (inr last) =
+      let k = (progress_past ns squares t).tally in
+      needed-last answer_limit (after_root h) TooLong (formed item_form) TextTooLong start.lines now.lines half.got got half.count
+      (λ front is.
+      let r = coming_in true answer_limit now.lines front in
+      half.same true front
+      ∙ ap (λ (o : Option CheckFault). unless_fault o (items_at h squares k r)) clear
+      ∙ items_begin h squares k r
+      ∙ ap (λ x. read_ok x (λ n. item_at h squares k n.0 n.1)) is)
+      last
+
+  -- where what was taken has no fault, no line before has one
+  clear_before : (item : Item) (line above' : ℕ) (ns' : List Node) (squares' : List Square) (t' : Tally) → TakesItem line (says_with h above ns squares t item) (says h above' ns' squares' t') None
+      → lines_fault h above' ns' ≡ None → lines_fault h above ns ≡ None
+  clear_before item line above' ns' squares' t' takes clear =
+      let r = bare true line in
+      is_clear (lines_fault h above ns) (at_item h (progress_past ns squares t) r (λ next. items_of h next r r.input.lines) (Some item)) (Err TooLong)
+      (takes r refl ∙ ap (λ (o : Option CheckFault). unless_fault o (items_of h (progress_past ns' squares' t') r [])) clear)
+      tt
 
   -- a line was taken
   pub halfway_more : (m : Mark) → Read (formed item_form) now after (Ok (NodeItem m)) → (line : ℕ) → line ≡ after.lines.line
-      → (above' : ℕ) (ns' : List Node) (squares' : List Square) (t' : Tally) → TakesItem line (says_with h above ns squares t (NodeItem m)) (says h above' ns' squares' t') None → IsHalfway h start after above' ns' squares' t' (turns + 1)
-  halfway_more m read line here above' ns' squares' t' takes = record {
-    past = read_as _ _ _ start after (item_came (NodeItem m) read) (λ more rest. takes (coming_in more answer_limit after.lines rest) (sym here));
-    few = fewer now after turns (NodeItem m) half.few read;
-  }
+      → (above' : ℕ) (ns' : List Node) (squares' : List Square) (t' : Tally) → TakesItem line (says_with h above ns squares t (NodeItem m)) (says h above' ns' squares' t') None → Grows ns ns'
+      → IsHalfway h start after above' ns' squares' t' (turns + 1)
+  halfway_more m read line here above' ns' squares' t' takes grows =
+      let got = half.got ++ read.got in
+      let needed : lines_fault h above' ns' ≡ None → IsNeeded answer_limit (after_root h) TooLong start.lines got
+      = λ clear. needed_more (clear_before (NodeItem m) line above' ns' squares' t' takes clear) read.got read.needed in
+      record {
+        got = got;
+        consumes = Consumes-then start.left now.left after.left half.got read.got half.consumes read.consumes;
+        same = λ more rest. item_says (NodeItem m) read more rest ∙ takes (coming_in more answer_limit after.lines rest) (sym here);
+        count = omega (arith, half.count, read.count, length-append half.got read.got);
+        calm = calm-then start now after half.calm read.counts;
+        needed = needed;
+        ahead = grown read ns' grows needed;
+        few = fewer now after turns (NodeItem m) half.few read;
+      }
+    where
+      grown : (read : Read (formed item_form) now after (Ok (NodeItem m))) (ns' : List Node) → Grows ns ns'
+          → (lines_fault h above' ns' ≡ None → IsNeeded answer_limit (after_root h) TooLong start.lines (half.got ++ read.got))
+          → IsBatchRead (after_root h) start after (half.got ++ read.got) (length ns')
+      grown read ns' (inl one) needed =
+          subst (IsBatchRead (after_root h) start after (half.got ++ read.got)) (sym one) (batch_more (after_root h) start now half.got (length ns) half.ahead after (NodeItem m) read)
+      grown read ns' (inr none) needed =
+          subst (IsBatchRead (after_root h) start after (half.got ++ read.got)) (sym (ap length none))
+          (batch_begins (after_root h) start after (half.got ++ read.got) (needed (ap (lines_fault h above') none)))
 
   -- a fault was found
-  pub halfway_fault : (item : Item) → Read (formed item_form) now after (Ok item) → (line : ℕ) → line ≡ after.lines.line → (fault : CheckFault)
+  pub halfway_fault : length ns ≤ 65536 → (item : Item) → Read (formed item_form) now after (Ok item) → (line : ℕ) → line ≡ after.lines.line → (fault : CheckFault)
       → ((r : Coming) → r.line ≡ line → says_with h above ns squares t item r ≡ Err (Fault fault)) → IsStoppedAt (after_root h) start after (Fault fault)
-  halfway_fault item read line here fault is = read_fault _ _ start after (item_came item read) fault (λ more rest. is (coming_in more answer_limit after.lines rest) (sym here))
+  halfway_fault few item read line here fault is = record {
+    got = half.got ++ read.got;
+    consumes = Consumes-then start.left now.left after.left half.got read.got half.consumes read.consumes;
+    ahead = ahead_read (after_root h) start now half.got (length ns) half.ahead read.got read.needed few;
+    stops = inl (λ more rest. item_says item read more rest ∙ is (coming_in more answer_limit after.lines rest) (sym here));
+    counts = (calm-then start now after half.calm read.counts).later;
+  }
+
+  clear_at_end : (line : ℕ) (u : Tally) → Closes line h (says_with h above ns squares t End) (Ok u) → lines_fault h above ns ≡ None
+  clear_at_end line u closes =
+      let r = bare false line in
+      is_clear (lines_fault h above ns) (at_item h (progress_past ns squares t) r (λ next. items_of h next r r.input.lines) (Some End)) (at_last h u r) (closes r refl) tt
 
   -- the last line was read
-  pub halfway_ends : Read (formed item_form) now after (Ok End) → (line : ℕ) → line ≡ after.lines.line → (u : Tally) → Closes line h (says_with h above ns squares t End) (Ok u) → IsReadTo (after_root h) (at_last h u) start after
-  halfway_ends read line here u closes = read_as _ _ _ start after (item_came End read) (λ more rest. closes (coming_in more answer_limit after.lines rest) (sym here))
+  pub halfway_ends : Read (formed item_form) now after (Ok End) → (line : ℕ) → line ≡ after.lines.line → (u : Tally) → Closes line h (says_with h above ns squares t End) (Ok u) → IsPast (after_root h) (at_last h u) start after
+  halfway_ends read line here u closes = record {
+    got = half.got ++ read.got;
+    consumes = Consumes-then start.left now.left after.left half.got read.got half.consumes read.consumes;
+    needed = needed_more (clear_at_end line u closes) read.got read.needed;
+    same = λ more rest. item_says End read more rest ∙ closes (coming_in more answer_limit after.lines rest) (sym here);
+    count = omega (arith, half.count, read.count, length-append half.got read.got);
+    calm = calm-then start now after half.calm read.counts;
+  }
 
 -- the source's count didn't fall in a call of the reader
 later_text : (b c : Stream) (e : AnswerError) → TextBlamesAs b c e → b.faults ≤ c.faults
@@ -178,25 +275,35 @@ later_text b c TextReadFault h = h.0
 later_text b c TextNoMemory h = h.later
 
 -- a line that couldn't be read, after lines that have a fault or have none
-pub halfway_stops : (h : Head) (start now after : Stream) (above : ℕ) (ns : List Node) (squares : List Square) (t : Tally) (turns : ℕ) → IsHalfway h start now above ns squares t turns
+pub halfway_stops : (h : Head) (start now after : Stream) (above : ℕ) (ns : List Node) (squares : List Square) (t : Tally) (turns : ℕ) → IsHalfway h start now above ns squares t turns → length ns ≤ 65536
     → (e : AnswerError) → Read (formed item_form) now after (Err e) → (o : Option CheckFault) → o ≡ lines_fault h above ns → (x : CheckError) → MatchOption o (x ≡ error_of e) (λ fault. x ≡ Fault fault) → IsStoppedAt (after_root h) start after x
-halfway_stops h start now after above ns squares t turns half e read None none x is =
+halfway_stops h start now after above ns squares t turns half few e read None none x is =
+    let k = (progress_past ns squares t).tally in
+    let past : IsPast (after_root h) (items_at h squares k) start now = record {
+      got = half.got;
+      consumes = half.consumes;
+      needed = half.needed (sym none);
+      same = λ more rest. half.same more rest ∙ ap (λ (o : Option CheckFault). unless_fault o (items_at h squares k (coming_in more answer_limit now.lines rest))) (sym none);
+      count = half.count;
+      calm = half.calm;
+    } in
+    subst (IsStoppedAt (after_root h) start after) (sym is)
+    (of_stopped (after_root h) start after (error_of e)
+    (past_stopped (after_root h) (items_at h squares k) start now after past (error_of e)
+    (part_error (items_at h squares k) (formed item_form) (λ n. item_at h squares k n.0 n.1) (items_begin h squares k) now after e read.got read.consumes read.needed read.reads read.counts)))
+halfway_stops h start now after above ns squares t turns half few e read (Some fault) some x is =
     let k = (progress_past ns squares t).tally in
     subst (IsStoppedAt (after_root h) start after) (sym is)
-    (read_stopped (after_root h) (items_at h squares k) start now after
-    (read_as _ _ _ start now half.past (λ more rest. ap (λ (o : Option CheckFault). unless_fault o (items_at h squares k (coming_in more answer_limit now.lines rest))) (sym none)))
-    (error_of e)
-    (of_stopped _ _ _ _ (part_error (items_at h squares k) (formed item_form) (λ n. item_at h squares k n.0 n.1) (items_begin h squares k) now after e read.got read.consumes read.needed read.reads read.counts)))
-halfway_stops h start now after above ns squares t turns half e read (Some fault) some x is =
-    let k = (progress_past ns squares t).tally in
-    subst (IsStoppedAt (after_root h) start after) (sym is)
-    (read_stopped (after_root h) (says h above ns squares t) start now after half.past (Fault fault)
     (record {
-      got = read.got;
-      consumes = read.consumes;
-      stops = inl (λ more rest. ap (λ (o : Option CheckFault). unless_fault o (items_at h squares k (coming_in more answer_limit now.lines (read.got ++ rest)))) (sym some));
-      counts = later_text now after e read.counts;
-    }))
+      got = half.got ++ read.got;
+      consumes = Consumes-then start.left now.left after.left half.got read.got half.consumes read.consumes;
+      ahead = ahead_read (after_root h) start now half.got (length ns) half.ahead read.got read.needed few;
+      stops = inl (λ more rest.
+          ap (λ l. after_root h (coming_in more answer_limit start.lines l)) (append_assoc half.got read.got rest)
+          ∙ half.same more (read.got ++ rest)
+          ∙ ap (λ (o : Option CheckFault). unless_fault o (items_at h squares k (coming_in more answer_limit now.lines (read.got ++ rest)))) (sym some));
+      counts = omega (arith, half.calm.later, later_text now after e read.counts);
+    })
 
 -- no more turns are left, and no more lines
 pub halfway_over : (h : Head) (start now : Stream) (above : ℕ) (ns : List Node) (squares : List Square) (t : Tally) (turns : ℕ) → IsHalfway h start now above ns squares t turns → 2 ^ 30 < turns → ⊥

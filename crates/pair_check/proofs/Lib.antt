@@ -1,3 +1,4 @@
 mod LineLemmas
+pub mod AheadLemmas
 mod ReadingLemmas
 mod BatchLemmas

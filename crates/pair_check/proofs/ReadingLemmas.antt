@@ -1,36 +1,25 @@
 -- What calls read of an answer one after another, where more may be read than is needed.
-use Rattle.std.proofs.Common.{◌≡◌, ℕ, ◌≤◌, Bool, false, true, List, [], ◌++◌, Option, Result, Ok, Err, refl, sym, ap, ◌∙◌, inl, inr, subst, arith, append-nil, append_assoc}
-use Rattle.std.specs.Prelude.{IfSome, IsTrue, IsErrOf, ⊤}
+use Rattle.std.proofs.Common.{◌≡◌, ℕ, ◌≤◌, Bool, false, true, List, [], ◌++◌, Option, Result, Ok, Err, refl, sym, ap, ◌∙◌, inl, inr, subst, arith, append_assoc}
+use Rattle.std.specs.Prelude.{IfSome, IsTrue, IsErrOf}
 use Rattle.std.specs.Result.{IsErrAnd}
-use Rattle.std.specs.Io.KnownBytes.{Consumes}
 use Rattle.port_io.specs.Faults.{Rose}
 use Rattle.port_io.proofs.SourceLemmas.{Consumes-then}
-use Rattle.siting_definitions.specs.Marks.{Tally}
-use Rattle.siting_definitions.specs.Answer.{Head}
 use Rattle.line_stream.specs.Coming.{Coming}
 use Rattle.line_stream.specs.Stream.{LinesState, Stream, IsCalm, coming_in, stream}
-use Rattle.line_stream.specs.LineReading.{IsEnd}
 use Rattle.line_stream.proofs.LineLemmas.{Consumes-none, calm-none, calm-then, ended-then, rose-then, open_after}
-use Rattle.std.proofs.lemmas.List.{length-append}
-use Rattle.certificate.specs.declared.reader.AnswerError.{AnswerError}
-use Rattle.certificate.specs.HeadReading.{answer_limit, in_answer, end_of}
-use Rattle.certificate.specs.AnswerReading.{IsNoEnd}
-use Rattle.certificate.specs.Beginnings.{start_of}
-use Rattle.cert_checker.specs.declared.faults.CheckFault.{CheckFault}
+use Rattle.certificate.specs.HeadReading.{answer_limit}
+use Rattle.certificate.specs.Beginnings.{nothing_read, start_of}
 use Rattle.cert_checker.specs.declared.faults.CheckError.{CheckError}
 use Rattle.cert_checker.specs.Steps.{ChecksTo}
 use Rattle.cert_checker.specs.declared.faults.CheckError.TheVariants.{Fault, ReadFault, TooLong, NoMemory}
 use Rattle.cert_checker.specs.declared.checking.Accepted.{Accepted}
-use Rattle.cert_checker.specs.Checking.{error_of, read_ok, accepted_of, check_in, checking}
-use Rattle.cert_checker.specs.CheckReading.{CheckDone, CheckBlamesAs, CheckCountsAs, IsPast, CheckStopsAs, IsCheckStopped, at_last}
-use Rattle.cert_checker.proofs.ReadLemmas.{part_error}
+use Rattle.cert_checker.specs.Checking.{check_in, checking}
+use Rattle.cert_checker.specs.CheckReading.{CheckDone, CheckBlamesAs, CheckCountsAs, IsPast, CheckStopsAs, IsCheckStopped}
 use Rattle.cert_checker.proofs.CheckLemmas.{calm_over, done_says, says_all}
-use Rattle.pair_check.specs.BatchReading.{BatchesRead, BatchesDone, BlamesAhead, CountsAhead, IsReadTo, IsStoppedAt, UnlessFault}
+use Rattle.pair_check.specs.BatchReading.{BatchesRead, BatchesDone, BlamesAhead, CountsAhead, IsStoppedAt, UnlessFault}
+use Rattle.pair_check.proofs.AheadLemmas.{ahead_after, none_ahead}
 
 -- ---- what was read without a need
-pub of_past : (wanted later : Coming → Result Accepted CheckError) (a b : Stream) → IsPast wanted later a b → IsReadTo wanted later a b
-of_past wanted later a b h = record { got = h.got; consumes = h.consumes; same = h.same; count = h.count; calm = h.calm }
-
 blames_of : (a b : Stream) (e : CheckError) → CheckBlamesAs a b e → BlamesAhead a b e
 blames_of a b (Fault fault) h = h.later
 blames_of a b TooLong h = h
@@ -42,19 +31,13 @@ counts_of a b (Ok x) h = h
 counts_of a b (Err e) h = blames_of a b e h
 
 pub of_stopped : (wanted : Coming → Result Accepted CheckError) (a b : Stream) (e : CheckError) → IsCheckStopped wanted a b e → IsStoppedAt wanted a b e
-of_stopped wanted a b e h = record { got = h.got; consumes = h.consumes; stops = h.stops; counts = blames_of a b e h.counts }
+of_stopped wanted a b e h = record { got = h.got; consumes = h.consumes; ahead = none_ahead wanted a.lines h.got h.needed; stops = h.stops; counts = blames_of a b e h.counts }
 
 pub of_done : (a b : Stream) (result : Result Accepted CheckError) → CheckDone a b result → BatchesDone a b result
-of_done a b result h = record { read = record { got = h.read.got; consumes = h.read.consumes; says = h.read.says }; counts = counts_of a b result h.counts }
-
--- nothing was read yet
-pub read_nothing : (wanted : Coming → Result Accepted CheckError) (a : Stream) → IsReadTo wanted wanted a a
-read_nothing wanted a = record { got = []; consumes = Consumes-none a.left; same = λ more rest. refl; count = omega arith; calm = calm-none a }
-
--- what is wanted later may be said otherwise
-pub read_as : (wanted later last : Coming → Result Accepted CheckError) (a b : Stream) → IsReadTo wanted later a b
-    → ((more : Bool) (rest : List ℕ) → later (coming_in more answer_limit b.lines rest) ≡ last (coming_in more answer_limit b.lines rest)) → IsReadTo wanted last a b
-read_as wanted later last a b h is = record { got = h.got; consumes = h.consumes; same = λ more rest. h.same more rest ∙ is more rest; count = h.count; calm = h.calm }
+of_done a b result h = record {
+  read = record { got = h.read.got; consumes = h.read.consumes; ahead = none_ahead check_in nothing_read h.read.got h.read.needed; says = h.read.says };
+  counts = counts_of a b result h.counts;
+}
 
 -- a call that fails, after calls that didn't
 blames_later : (a b c : Stream) (e : CheckError) → IsCalm a b → BlamesAhead b c e → BlamesAhead a c e
@@ -63,7 +46,7 @@ blames_later a b c TooLong h k = calm-then a b c h k
 blames_later a b c ReadFault h k = (omega (arith, h.later, k.0), rose-then a.faults b.faults c.faults h.later k.1)
 blames_later a b c NoMemory h k = calm-then a b c h k
 
-module _ (wanted later : Coming → Result Accepted CheckError) (a b c : Stream) (h : IsReadTo wanted later a b) where
+module _ (wanted later : Coming → Result Accepted CheckError) (a b c : Stream) (h : IsPast wanted later a b) where
   -- what is said later is said before
   read_same : (got : List ℕ) (x : Result Accepted CheckError) (more : Bool) (rest : List ℕ) → later (coming_in more answer_limit b.lines (got ++ rest)) ≡ x
       → wanted (coming_in more answer_limit a.lines ((h.got ++ got) ++ rest)) ≡ x
@@ -82,55 +65,24 @@ module _ (wanted later : Coming → Result Accepted CheckError) (a b c : Stream)
   read_stopped e k = record {
     got = h.got ++ k.got;
     consumes = Consumes-then a.left b.left c.left h.got k.got h.consumes k.consumes;
+    ahead = ahead_after wanted later a b h k.got k.ahead;
     stops = read_stops k.got e k.stops;
     counts = blames_later a b c e h.calm k.counts;
   }
-
-  -- what is wanted after what is wanted later
-  pub read_then : (last : Coming → Result Accepted CheckError) → IsReadTo later last b c → IsReadTo wanted last a c
-  read_then last k = record {
-    got = h.got ++ k.got;
-    consumes = Consumes-then a.left b.left c.left h.got k.got h.consumes k.consumes;
-    same = λ more rest. read_same k.got (last (coming_in more answer_limit c.lines rest)) more rest (k.same more rest);
-    count = omega (arith, h.count, k.count, length-append h.got k.got);
-    calm = calm-then a b c h.calm k.calm;
-  }
-
--- a fault of what was read
-pub read_fault : (wanted later : Coming → Result Accepted CheckError) (a b : Stream) → IsReadTo wanted later a b → (fault : CheckFault)
-    → ((more : Bool) (rest : List ℕ) → later (coming_in more answer_limit b.lines rest) ≡ Err (Fault fault)) → IsStoppedAt wanted a b (Fault fault)
-read_fault wanted later a b h fault is = record { got = h.got; consumes = h.consumes; stops = inl (λ more rest. h.same more rest ∙ is more rest); counts = h.calm.later }
 
 -- ---- a check from its beginning
 module _ (left : Option (List ℕ)) (faults : ℕ) (is_strict : Bool) where
   pub batches_stopped : (b : Stream) (e : CheckError) → IsStoppedAt check_in (start_of left faults is_strict) b e → BatchesDone (start_of left faults is_strict) b (Err e)
   batches_stopped b e h = record {
-    read = record { got = h.got; consumes = h.consumes; says = done_says left faults is_strict b h.got e h.stops };
+    read = record { got = h.got; consumes = h.consumes; ahead = h.ahead; says = done_says left faults is_strict b h.got e h.stops };
     counts = h.counts;
   }
 
   -- no room for a batch
   pub no_room : BatchesDone (start_of left faults is_strict) (start_of left faults is_strict) (Err NoMemory)
-  no_room = record { read = record { got = []; consumes = Consumes-none left; says = inl refl }; counts = calm-none (start_of left faults is_strict) }
-
-  -- something comes after the line "end"
-  pub batches_end_fails : (b c : Stream) (h : Head) (t : Tally) (e : AnswerError) → IsReadTo check_in (at_last h t) (start_of left faults is_strict) b → IsNoEnd b c e
-      → BatchesDone (start_of left faults is_strict) c (Err (error_of e))
-  batches_end_fails b c h t e past more_comes =
-      batches_stopped c (error_of e) (read_stopped check_in (at_last h t) (start_of left faults is_strict) b c past (error_of e)
-      (of_stopped _ _ _ _ (part_error (at_last h t) end_of (λ _. Ok (accepted_of h t)) (λ r. refl) b c e more_comes.got more_comes.consumes more_comes.needed more_comes.stops more_comes.counts)))
-
-  -- all was read, and there is no fault
-  pub batches_accept : (b c : Stream) (h : Head) (t : Tally) (x : Accepted) → IsReadTo check_in (at_last h t) (start_of left faults is_strict) b → IsEnd answer_limit b c → x ≡ accepted_of h t
-      → BatchesDone (start_of left faults is_strict) c (Ok x)
-  unfolding checking
-  batches_accept b c h t x past end is = record {
-    read = record {
-      got = past.got;
-      consumes = subst (Consumes left c.left) (append-nil past.got) (Consumes-then left b.left c.left past.got [] past.consumes end.consumes);
-      says = (ap checking (sym (append-nil past.got)) ∙ (past.same false [] ∙ (ap (λ (r : Result ⊤ AnswerError). read_ok r (λ _. Ok (accepted_of h t))) (ap in_answer end.ends) ∙ ap Ok (sym is))), ended-then left b.left c.left past.got past.consumes end.left);
-    };
-    counts = calm-then (start_of left faults is_strict) b c past.calm end.calm;
+  no_room = record {
+    read = record { got = []; consumes = Consumes-none left; ahead = none_ahead check_in nothing_read [] (inl refl); says = inl refl };
+    counts = calm-none (start_of left faults is_strict);
   }
 
 -- ---- what is answered

@@ -1,5 +1,6 @@
 -- What a check says of an answer of which some lines were read and not yet checked.
-use Rattle.std.specs.Prelude.{◌≡◌, ℕ, List, map, Option, Some, None, Result, Ok, Err}
+use Rattle.std.specs.Prelude.{◌≡◌, ℕ, ◌+◌, ◌⊎◌, List, [], map, length, Option, Some, None, Result}
+use Rattle.std.specs.Prelude.{Ok, Err}
 use Rattle.siting_definitions.specs.Square.{Square}
 use Rattle.siting_definitions.specs.Marks.{Tally, tally_of}
 use Rattle.siting_definitions.specs.Answer.{Head}
@@ -65,3 +66,7 @@ abbrev pub Closes
     : ℕ → Head → (Coming → Result Accepted CheckError) → Result Tally CheckFault → Type 0
 Closes line h before (Ok t) = (r : Coming) → r.line ≡ line → before r ≡ at_last h t r
 Closes line h before (Err fault) = (r : Coming) → r.line ≡ line → before r ≡ Err (Fault fault)
+
+-- the lines of a batch are one more than they were, or there are none
+abbrev pub Grows : List Node → List Node → Type 0
+Grows before after = (length after ≡ length before + 1) ⊎ (after ≡ [])

@@ -10,7 +10,7 @@ ghost use Rattle.siting_definitions.specs.Marks.{tally_of};
 ghost use Rattle.siting_definitions.specs.Marks as marks;
 ghost use Rattle.answer_model.specs.Tally.{AreSmall, tally_sum};
 ghost use Rattle.cert_checker.specs.Walking.{CanStep, squares_after};
-ghost use Rattle.pair_check.specs.Batches.{Closes, TakesItem, batch_fault, batch_says};
+ghost use Rattle.pair_check.specs.Batches.{Closes, Grows, TakesItem, batch_fault, batch_says};
 ghost use Rattle.pair_check.specs.Batches.{batch_says_with};
 ghost use Rattle.pair_check.specs.Batches.{tally_with};
 
@@ -110,6 +110,7 @@ impl Batch {
         ensures says { TakesItem line (batch_says_with head.now self.old (NodeItem mark))
             (batch_says head.now self.new) result }
         ensures few { result ≡ None → vec_len self.new.nodes < 65536 }
+        ensures grows { result ≡ None → Grows self.old.nodes.items self.new.nodes.items }
         ensures line { result ≡ None → line ≡ self.new.above + vec_len self.new.nodes }
         ensures tally { result ≡ None
             → tally_with self.new ≡ tally_sum (tally_with self.old) (tally_of (mark ∷ [])) }

@@ -8,7 +8,7 @@ use cert_checker::{Accepted, CheckError, CheckFault, Differ, Walk, check};
 use convex_region::Polygon;
 use exact_geometry::Place;
 use exclusion::excluded;
-use port_io::MemSource;
+use port_io::{MemSource, Source};
 use site_model::{DemandPt, Instance, Kind, Site};
 use siting_definitions::{Mark, Word};
 use std::alloc::Global;
@@ -367,5 +367,44 @@ fn two_parts_at_once(rt: HostRuntime) -> Result<(), Fail> {
     let mut source = source_of(rt.alloc(), FIVE_SQUARES, 0)?;
     assert!(rt; check_with(&rt, rt.alloc(), &mut source, 2, &gate).is_ok());
     assert!(rt; !gate.gave_up.load(Ordering::SeqCst));
+    Ok(())
+}
+
+/// How many bytes a source has left.
+fn bytes_left(source: &mut MemSource) -> u64 {
+    let mut left: u64 = 0;
+    let mut room = [0; 64];
+    for _ in 0..100_000 {
+        match source.read(&mut room) {
+            Ok(0) | Err(_) => return left,
+            Ok(count) => left = left.saturating_add(count as u64),
+        }
+    }
+    left
+}
+
+#[test]
+fn a_team_reads_at_most_a_batch_ahead(rt: HostRuntime) -> Result<(), Fail> {
+    // The first node line has a fault. With those after it there are 93,338, of four bytes each.
+    let mut text = lines_of(rt.alloc(), FIVE_SQUARES, 16, &[])?;
+    for leaf in 0..70_000_u32 {
+        let splits = if leaf == 0 {
+            9
+        } else {
+            leaf.trailing_zeros() / 2
+        };
+        for _ in 0..splits {
+            text.push_str("S 0\n")?;
+        }
+        text.push_str("O 0\n")?;
+    }
+    for workers in [1, 3] {
+        let mut source = source_of(rt.alloc(), text.as_str(), 0)?;
+        match check_with(&rt, rt.alloc(), &mut source, workers, &OpenCheckGate) {
+            Err(CheckError::Fault(fault)) => assert_eq!(rt; fault.line, 17),
+            _ => assert!(rt; false, "a fault that was not found"),
+        }
+        assert!(rt; bytes_left(&mut source) >= 4 * (93_338 - 65_536) - 4_096);
+    }
     Ok(())
 }

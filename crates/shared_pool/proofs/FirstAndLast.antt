@@ -1,6 +1,6 @@
 -- The table as it is made, and as it is closed.
-use Rattle.std.proofs.Common.{◌≡◌, ℕ, zero, suc, ◌+◌, ◌≤◌, ◌-◌, ◌^◌, ℤ, pos, ◌<ℤ◌, Bool, true, false, cond, List, [], ◌∷◌, length, Option, None, Some, refl, sym, ap, ◌∙◌, subst, arith}
-use Rattle.std.specs.Prelude.{⊤, MatchOption, IsPermutation, sum_by}
+use Rattle.std.proofs.Common.{◌≡◌, ◌≢◌, ℕ, zero, suc, ◌+◌, ◌<◌, ◌≤◌, ◌-◌, ◌^◌, ℤ, pos, ◌<ℤ◌, Bool, true, false, cond, List, [], ◌∷◌, length, All, Option, None, Some, refl, sym, ap, ◌∙◌, subst, arith}
+use Rattle.std.specs.Prelude.{⊤, MatchOption, IsPermutation, sum_by, slice_index_or}
 use Rattle.std.specs.declared.snapshot.Snapshot.{Snapshot}
 use Rattle.std.proofs.lemmas.Bool.{false≢true}
 use Rattle.std.proofs.lemmas.List.Sorted.{IsPermutation-refl}
@@ -19,17 +19,19 @@ use Rattle.bound_heap.specs.declared.entry.Entry.{Entry}
 use Rattle.pool_core.specs.Job.{Job, IsJob, IsOffer, start_cost, cost_in}
 use Rattle.pool_core.specs.State.{State}
 use Rattle.pool_core.specs.Sound.{IsSound, IsPoolOf, IsFinished}
+use Rattle.shared_pool.specs.declared.deed.Deed.{Deed}
 use Rattle.shared_pool.specs.declared.view.View.{View}
 use Rattle.shared_pool.specs.declared.view.Role.{Role}
 use Rattle.shared_pool.specs.declared.view.Role.TheVariants.{Root, Desk, Spent}
 use Rattle.pool_core.specs.Seats.{StopsWithin, IsKeptBy}
 use Rattle.shared_pool.specs.Views.{first_view}
-use Rattle.shared_pool.specs.TableFits.{IsReached, HasView, HasOffered, SeatFits, ViewFits, RootFits, TableFits, IsLast, is_desk_role, incumbent_in, turn_word}
+use Rattle.shared_pool.specs.Runs.{search, IsEndOf, HasPast}
+use Rattle.shared_pool.specs.TableFits.{IsReached, HasView, HasOffered, SeatFits, ViewFits, RootFits, KnowsDeeds, PastFits, TableFits, IsLast, is_desk_role, incumbent_in, turn_word}
 use Rattle.shared_pool.specs.Steps.{Seat, IsAtRest}
 use Rattle.shared_pool.proofs.Incumbents.{cost-below}
 use Rattle.shared_pool.proofs.ViewLists.{has_lease, term-le, sums-le}
-use Rattle.shared_pool.proofs.Runs.{search, reached-itself, reached-sound}
-use Rattle.shared_pool.proofs.Moves.{Table, turn_of, desk_count}
+use Rattle.shared_pool.proofs.Runs.{all-none, goes_on-itself}
+use Rattle.shared_pool.proofs.Moves.{Table, turn_of, desk_count, now_reached, now_sound}
 use Rattle.shared_pool.proofs.TurnSteps.{lease-desk, leased-count}
 
 -- ---- the beginning
@@ -66,7 +68,10 @@ starts about word opened is =
       turns = omega arith;
       in_slot = λ free. refl;
       opened = opened;
-      reached = subst (λ (u : Option ℤ). IsReached pool u pool) (sym is) (reached-itself pool);
+      deeds = [];
+      run = tt;
+      shown_is = ap (search pool) (sym is);
+      seated = all-none (λ (d : Deed). (0 < d.seat) × (d.seat < 1));
       job = refl;
       beginning = refl;
       leases = subst (IsPermutation {X = Entry} []) (sym none_leased) (IsPermutation-refl {X = Entry} []);
@@ -84,20 +89,32 @@ starts about word opened is =
             },
             record { seat = t.0; turn = refl; lease = refl; best = at_most-refl (start_cost pool.job) },
           ));
+      known = λ j x at.
+          let t = only v x j at in
+          subst (KnowsDeeds [] j) t.1 (λ role. (sym t.0, goes_on-itself 0 [] [] refl));
       offered = subst (λ (u : Option ℤ). MatchOption u ⊤ (HasOffered (v ∷ []))) (sym is) (start-offered v);
       root = v;
       root_at = refl;
       root_role = refl;
       out = refl;
       seats = omega arith;
+      each = refl;
+      gone = refl;
+      pasts = all-none (PastFits [] (v ∷ []));
+      spent = λ j x at is_spent. absurd (first_not_spent (ap (λ (y : View). y.role) (only v x j at).1 ∙ is_spent));
       kept = subst (StopsWithin 0 (pool.kept + length pool.leased)) (sym opened.going) tt;
     }
+  where
+    first_not_spent : Root ≢ Spent
+    first_not_spent same = cc
 
 -- ---- the end
 -- what a table and its root desk end with
 pub record Ends (about : Snapshot State) (v : View) (pool : State) : Type 0 where
   pub last : IsLast about pool v.best
   pub reached : IsReached about.value (cost_in v.best) pool
+  pub end_is : IsEndOf about.value v.pasts pool (cost_in v.best)
+  pub seats : length v.pasts ≡ v.seats
   pub offer : MatchOption v.best ⊤ (λ b. IsOffer about.value.job.instance b.0 b.1)
   pub job : pool.job ≡ about.value.job
   pub beginning : pool.beginning ≡ about.value.beginning
@@ -149,6 +166,11 @@ root-known first shown u j v Root e h = h.0
 root-known first shown u j v Desk e h = absurd (cc)
 root-known first shown u j v Spent e h = absurd (cc)
 
+at_some : {A : Type 0} (l : List A) (j : ℕ) → j < length l → (x : A) × (get_elem? l j ≡ some x)
+at_some [] j lt = absurd (omega (arith, lt))
+at_some (x ∷ xs) zero lt = (x, refl)
+at_some (x ∷ xs) (suc j) lt = at_some xs j (omega (arith, lt))
+
 module _ (about : Snapshot State) (s : Table) (o : TableFits about s) (v : View) (at : HasView s.views 0 v) (is_root : v.role ≡ Root) (none_out : v.out ≡ 0) where
   same_root : o.root ≡ v
   same_root = some-injective o.root v (sym o.root_at ∙ at)
@@ -177,13 +199,33 @@ module _ (about : Snapshot State) (s : Table) (o : TableFits about s) (v : View)
       (λ c is. offer-root about.value o.shown (incumbent_in s) s.views v c at nobody o.views
       (subst (λ (u : Option ℤ). MatchOption u ⊤ (HasOffered s.views)) is o.offered))
 
+  -- the seat of a deed is one of a desk that was taken in
+  past_of : (j : ℕ) → 0 < j → (x : View) × HasView s.views j x → HasPast v.pasts j
+  past_of j far t = by_role t.0.role refl (o.views j t.0 t.1)
+    where
+      by_role : (r : Role) → t.0.role ≡ r → SeatFits about.value o.shown (incumbent_in s) j t.0 r → HasPast v.pasts j
+      by_role Root is h = let first = h.1.seat in absurd (omega (arith, first, far))
+      by_role Desk is h =
+          let one : desk_count t.0 ≡ 1 = ap (λ (r : Role). cond (is_desk_role r) 1 0) is in
+          absurd (omega (arith, one, nobody, term-le desk_count s.views j t.0 t.1))
+      by_role Spent is h = subst (λ (x : View). HasPast x.pasts j) same_root (o.spent j t.0 t.1 is)
+
   ended-at : Ends about v o.shown
   ended-at =
-      let sound : IsSound (search o.shown (incumbent_in s)) = reached-sound about.value o.shown (incumbent_in s) o.opened o.reached in
+      let sound : IsSound (search o.shown (incumbent_in s)) = now_sound about s o in
       let offer = offer-of about.value.job.instance (incumbent_in s) v.best known.best in
       record {
         last = record { table = s; fits = o; pool_is = o.in_slot free; incumbent = number };
-        reached = subst (λ (u : Option ℤ). IsReached about.value u o.shown) number o.reached;
+        reached = subst (λ (u : Option ℤ). IsReached about.value u o.shown) number (now_reached about s o);
+        end_is = record {
+          deeds = o.deeds;
+          run = o.run;
+          shown_is = o.shown_is ∙ ap (search o.shown) number;
+          go_on = λ k p lt. let h = subst (λ (x : View). All (PastFits o.deeds s.views) x.pasts) same_root o.pasts k p lt in h.goes_on;
+          by_pasts = λ k d lt. let h = o.seated k d lt in past_of (slice_index_or o.deeds k d).seat h.0 (at_some s.views (slice_index_or o.deeds k d).seat h.1);
+        };
+        seats = let gone = o.gone in let same = ap (λ (x : View). length x.pasts) same_root in let out = ap (λ (x : View). x.out) same_root in
+            let seats = ap (λ (x : View). x.seats) same_root in omega (arith, gone, same, out, seats, none_out);
         offer = offer;
         job = o.job;
         beginning = o.beginning;

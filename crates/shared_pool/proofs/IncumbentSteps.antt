@@ -1,5 +1,5 @@
 -- A load of the incumbent and an offer keep the rule.
-use Rattle.std.proofs.Common.{◌≡◌, ℕ, ◌<◌, ℤ, ◌<ℤ◌, ◌≤ℤ◌, pos, ◌-◌, ◌^◌, min, true, false, List, length, get_or, set, Option, None, Some, refl, sym, ap, ◌∙◌, subst, ⊎_elim, arith, length-set, get_or-set_other, get_or-set_same}
+use Rattle.std.proofs.Common.{◌≡◌, ℕ, ◌<◌, ℤ, ◌<ℤ◌, ◌≤ℤ◌, pos, ◌-◌, ◌^◌, min, true, false, List, ◌∷◌, length, get_or, set, Option, None, Some, refl, sym, ap, ◌∙◌, subst, subst₂, ⊎_elim, arith, length-set, get_or-set_other, get_or-set_same}
 use Rattle.std.specs.Prelude.{⊤, MatchOption, int_lt}
 use Rattle.std.specs.Int.{int_min}
 use Rattle.std.specs.declared.snapshot.Snapshot.{Snapshot}
@@ -20,16 +20,18 @@ use Rattle.objectives.specs.Limits.{IsCost}
 use Rattle.objectives.proofs.SiteSizes.{upper_of-IsCost}
 use Rattle.pool_core.specs.Job.{Job, IsOffer, start_cost, cost_in}
 use Rattle.pool_core.specs.State.{State}
+use Rattle.pool_core.specs.Machine.{Event, Offer}
 use Rattle.pool_core.specs.Best.{better_of}
 use Rattle.pool_core.specs.Sound.{IsSound}
 use Rattle.shared_pool.specs.declared.view.View.{View}
 use Rattle.shared_pool.specs.declared.view.Role.TheVariants.{Desk}
+use Rattle.shared_pool.specs.declared.deed.Deed.{Deed}
 use Rattle.shared_pool.specs.Views.{view_after_look, view_after_offer}
-use Rattle.shared_pool.specs.TableFits.{HasView, HasOffered, IsReached, ViewFits, TableFits, incumbent_in, incumbent_word, turn_word}
-use Rattle.shared_pool.specs.Steps.{Seat, HasSmallCosts, IsIncumbentAfter, told_by_look, told_by_offer}
+use Rattle.shared_pool.specs.Runs.{search, Leads, AddsOffer}
+use Rattle.shared_pool.specs.TableFits.{HasView, HasOffered, ViewFits, TableFits, incumbent_in, incumbent_word, turn_word}
+use Rattle.shared_pool.specs.Steps.{Seat, HasSmallCosts, IsIncumbentAfter, IsOffered, told_by_look, told_by_offer}
 use Rattle.shared_pool.proofs.Incumbents.{cost-below, number-min, lesser-falls, lesser-offer, falls-at}
-use Rattle.shared_pool.proofs.Runs.{search, reached-offer, reached-sound}
-use Rattle.shared_pool.proofs.Moves.{Table, Falls, moved, quiet, of_desk, within}
+use Rattle.shared_pool.proofs.Moves.{Table, Falls, moved, quiet, of_desk, within, now_sound, Continues, deed_of, goes, adds}
 
 -- the cost of what is offered at a table is small
 pub offer-IsCost : (about : Snapshot State) (s : Table) → TableFits about s → (site : Pt) (cost : ℤ) → IsOffer about.value.job.instance site cost → IsCost cost
@@ -39,7 +41,7 @@ offer-IsCost about s o site cost offer =
 -- what the incumbent is at a step of a desk that knows v
 pub incumbent_now : (about : Snapshot State) (s : Table) (o : TableFits about s) (v : View) → ViewFits about.value o.shown (incumbent_in s) v → IsIncumbentAfter v (incumbent_in s)
 incumbent_now about s o v h =
-    let sound : IsSound (search o.shown (incumbent_in s)) = reached-sound about.value o.shown (incumbent_in s) o.opened o.reached in
+    let sound : IsSound (search o.shown (incumbent_in s)) = now_sound about s o in
     record {
       seen = h.seen;
       start = subst (λ (first : State). MatchOption (start_cost first.job) ⊤ (IsAtMost (incumbent_in s))) (sym h.first_is)
@@ -53,12 +55,20 @@ module _ (about : Snapshot State) (s : Table) (o : TableFits about s) (id : ℕ)
   known : ViewFits about.value o.shown (incumbent_in s) v
   known = of_desk about.value o.shown (incumbent_in s) id v v.role desk (o.views id v at)
 
-  looked : TableFits about (record { words = set s.words 0 (incumbent_word s); homes = s.homes; views = set s.views id (view_after_look v (incumbent_in s)) })
+  -- the deeds after a look
+  abbrev look_deeds : List Deed
+  look_deeds = deed_of v o.shown (incumbent_in s) ∷ o.deeds
+
+  -- and the desk's view
+  abbrev look_view : View
+  look_view = view_after_look v look_deeds (incumbent_in s)
+
+  looked : TableFits about (record { words = set s.words 0 (incumbent_word s); homes = s.homes; views = set s.views id look_view })
   looked =
       let long : 0 < length s.words = let two = o.words in omega arith in
       let first : get_or (set s.words 0 (incumbent_word s)) 0 0 ≡ incumbent_word s = get_or-set_same s.words 0 (incumbent_word s) 0 long in
       let second : get_or (set s.words 0 (incumbent_word s)) 1 0 ≡ turn_word s = get_or-set_other s.words 0 1 (incumbent_word s) 0 (λ same. omega arith) in
-      quiet about s o id v (view_after_look v (incumbent_in s)) (set s.words 0 (incumbent_word s)) s.homes
+      quiet about s o id v look_view (set s.words 0 (incumbent_word s)) s.homes
       (record {
         at = at;
         was_desk = desk;
@@ -71,6 +81,7 @@ module _ (about : Snapshot State) (s : Table) (o : TableFits about s) (id : ℕ)
         in_slot = λ free. o.in_slot (sym second ∙ free);
         lease = refl;
         best = refl;
+        continues = goes about s o id v look_view at desk None o.shown (incumbent_in s) refl refl refl;
         here = record {
           first_is = known.first_is;
           turn = known.turn;
@@ -143,10 +154,22 @@ costs_of i u None h = tt
 costs_of i u (Some b) h = h.1
 
 module _ (about : Snapshot State) (s : Table) (o : TableFits about s) (id : ℕ) (v : View) (at : HasView s.views id v) (desk : v.role ≡ Desk) where
+  -- the desk's view after an offer
+  abbrev offer_view : Pt → ℤ → View
+  offer_view site upper =
+      view_after_offer v (deed_of v o.shown (lesser (incumbent_in s) (Some upper)) ∷ o.deeds) (incumbent_in s) site upper
+
+  -- an offer is an event of the machine
+  offer_leads : (site : Pt) (upper : ℤ) → IsOffer v.first.job.instance site upper → Leads (Some (Offer site)) (search o.shown (incumbent_in s)) (search o.shown (lesser (incumbent_in s) (Some upper)))
+  offer_leads site upper offer =
+      let known : ViewFits about.value o.shown (incumbent_in s) v = of_desk about.value o.shown (incumbent_in s) id v v.role desk (o.views id v at) in
+      let fair : IsOffer about.value.job.instance site upper = subst (λ (first : State). IsOffer first.job.instance site upper) known.first_is offer in
+      (upper, subst (λ (j : Job). IsOffer j.instance site upper) (sym o.job) fair, refl, refl)
+
   offered : (site : Pt) (upper : ℤ) (word : ℕ) → word ≡ word_of upper → incumbent_word s < 18446744073709551616 → IsOffer v.first.job.instance site upper
-      → TableFits about (record { words = set s.words 0 (min (incumbent_word s) word); homes = s.homes; views = set s.views id (view_after_offer v (incumbent_in s) site upper) })
+      → TableFits about (record { words = set s.words 0 (min (incumbent_word s) word); homes = s.homes; views = set s.views id (offer_view site upper) })
   offered site upper word is fits offer =
-      let w = view_after_offer v (incumbent_in s) site upper in
+      let w = offer_view site upper in
       let known : ViewFits about.value o.shown (incumbent_in s) v = of_desk about.value o.shown (incumbent_in s) id v v.role desk (o.views id v at) in
       let fair : IsOffer about.value.job.instance site upper = subst (λ (first : State). IsOffer first.job.instance site upper) known.first_is offer in
       let small : IsCost upper = offer-IsCost about s o site upper fair in
@@ -168,8 +191,8 @@ module _ (about : Snapshot State) (s : Table) (o : TableFits about s) (id : ℕ)
         turn = omega (arith, second);
         turns = let most = o.turns in omega (arith, second);
         in_slot = λ free. o.in_slot (sym second ∙ free);
-        reached = subst (λ (x : Option ℤ). IsReached about.value x o.shown) (sym u)
-            (reached-offer about.value o.shown (incumbent_in s) site upper o.reached (subst (λ (j : Job). IsOffer j.instance site upper) (sym o.job) fair));
+        continues = subst (Continues about s o id v w o.shown) (sym u)
+            (goes about s o id v w at desk (Some (Offer site)) o.shown after (offer_leads site upper offer) refl refl);
         job = refl;
         beginning = refl;
         leases = λ f. refl;
@@ -193,22 +216,39 @@ module _ (about : Snapshot State) (s : Table) (o : TableFits about s) (id : ℕ)
       })
 
 pub makes_offer : (about : Snapshot State) (slots id : ℕ) (m : Seat) (site : Pt) (upper : ℤ) (word : ℕ) → m.0.role ≡ Desk → IsOffer m.0.first.job.instance site upper → word ≡ word_of upper → Allows (TableFits about) slots id m 0 (λ n. min n word) (told_by_offer site upper (step slots 0 word 0 none) m)
-makes_offer about slots id m site upper word desk offer is s o wide at fits = (
-  view_after_offer m.0 (incumbent_in s) site upper,
-  keeps,
-  tt,
-  offered about s o id m.0 at desk site upper word is fits offer,
-  (incumbent_now about s o m.0 (of_desk about.value o.shown (incumbent_in s) id m.0 m.0.role desk (o.views id m.0 at)), refl),
-)
+makes_offer about slots id m site upper word desk offer is s o wide at fits =
+    let known : ViewFits about.value o.shown (incumbent_in s) m.0 = of_desk about.value o.shown (incumbent_in s) id m.0 m.0.role desk (o.views id m.0 at) in
+    let w = offer_view about s o id m.0 at desk site upper in (
+      w,
+      keeps,
+      tt,
+      offered about s o id m.0 at desk site upper word is fits offer,
+      (
+        incumbent_now about s o m.0 known,
+        refl,
+        (o.shown, adds about s o id m.0 w at desk (Some (Offer site)) o.shown (lesser (incumbent_in s) (Some upper)) known.first_is (offer_leads about s o id m.0 at desk site upper offer) refl),
+      ),
+    )
 
 pub looks : (about : Snapshot State) (slots id : ℕ) (m : Seat) → m.0.role ≡ Desk → Allows (TableFits about) slots id m 0 (λ n. n) (told_by_look (step slots 0 0 0 none) m)
-looks about slots id m desk s o wide at fits = (
-  view_after_look m.0 (incumbent_in s),
-  keeps,
-  tt,
-  looked about s o id m.0 at desk,
-  (incumbent_now about s o m.0 (of_desk about.value o.shown (incumbent_in s) id m.0 m.0.role desk (o.views id m.0 at)), refl),
-)
+looks about slots id m desk s o wide at fits =
+    let known : ViewFits about.value o.shown (incumbent_in s) m.0 = of_desk about.value o.shown (incumbent_in s) id m.0 m.0.role desk (o.views id m.0 at) in
+    let w = look_view about s o id m.0 at desk in (
+      w,
+      keeps,
+      tt,
+      looked about s o id m.0 at desk,
+      (
+        incumbent_now about s o m.0 known,
+        refl,
+        (o.shown, adds about s o id m.0 w at desk None o.shown (incumbent_in s) known.first_is refl refl),
+      ),
+    )
+
+-- what the step told of the site and cost that were said
+pub offered-by : (m n : Seat) (u : Option ℤ) (site said : Pt) (upper cost : ℤ) → said ≡ site → cost ≡ upper → IsIncumbentAfter m.0 u × (n ≡ (view_after_offer m.0 n.0.deeds u said cost, m.1)) × AddsOffer u said cost m.0 n.0 → IsOffered u site upper m.0 n.0
+offered-by m n u site said upper cost same_site same_cost h =
+    subst₂ (λ (z : Pt) (c : ℤ). IsOffered u z c m.0 n.0) same_site same_cost (record { incumbent = h.0; view_is = ap (λ (x : Seat). x.0) h.1; adds = h.2 })
 
 -- what is offered has a word
 pub offer-below : (i : Instance) (site : Pt) (upper : ℤ) → HasSmallCosts i → IsOffer i site upper → upper <ℤ pos (2 ^ 63 - 1)

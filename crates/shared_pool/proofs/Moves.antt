@@ -1,6 +1,6 @@
 -- A step of a desk keeps the rule, where it keeps the parts of it that it touches.
-use Rattle.std.proofs.Common.{◌≡◌, ℕ, zero, suc, ◌+◌, ◌<◌, ◌≤◌, ◌≢◌, ⊎_elim, ℤ, true, cond, List, [], ◌∷◌, length, get_or, set, Option, None, Some, refl, sym, ap, ◌∙◌, subst, arith}
-use Rattle.std.specs.Prelude.{⊤, MatchOption, option_to_list}
+use Rattle.std.proofs.Common.{◌≡◌, ℕ, zero, suc, ◌+◌, ◌<◌, ◌≤◌, ◌≢◌, inl, inr, ⊎_elim, ℤ, true, cond, List, [], ◌∷◌, ◌++◌, length, get_or, set, Option, None, Some, refl, sym, ap, ◌∙◌, subst, subst₂, arith, length-set, All}
+use Rattle.std.specs.Prelude.{⊤, MatchOption, option_to_list, slice_index_or}
 use Rattle.std.specs.declared.snapshot.Snapshot.{Snapshot}
 use mathlib.Core.Option as logic
 use mathlib.Core.Option.{some, some-injective}
@@ -15,14 +15,21 @@ use Rattle.dyadic_square.proofs.Bag.{total, total-permutation, permutation_from_
 use Rattle.incumbent_word.specs.Word.{number_in}
 use Rattle.bound_heap.specs.declared.entry.Entry.{Entry}
 use Rattle.pool_core.specs.Job.{IsOffer, cost_in}
-use Rattle.pool_core.specs.State.{State}
+use Rattle.pool_core.specs.State.{State, Search}
+use Rattle.pool_core.specs.Machine.{Event}
+use Rattle.pool_core.specs.Sound.{IsSound}
 use Rattle.pool_core.proofs.Entries.{same_entry, entry_decides}
+use Rattle.shared_pool.specs.declared.deed.Deed.{Deed}
+use Rattle.shared_pool.specs.declared.deed.Past.{Past}
 use Rattle.shared_pool.specs.declared.view.View.{View}
 use Rattle.shared_pool.specs.declared.view.Role.{Role}
 use Rattle.shared_pool.specs.declared.view.Role.TheVariants.{Root, Desk, Spent}
 use Rattle.pool_core.specs.Seats.{StopsWithin}
-use Rattle.shared_pool.specs.TableFits.{IsReached, IsOver, HasView, HasOffered, ViewFits, SeatFits, TableFits, leases_of, is_desk, is_desk_role, incumbent_in, turn_word}
+use Rattle.shared_pool.specs.Views.{spent_view}
+use Rattle.shared_pool.specs.Runs.{search, shown_after, Leads, IsRun, GoesOn, Adds}
+use Rattle.shared_pool.specs.TableFits.{IsReached, IsOver, HasView, HasOffered, ViewFits, SeatFits, KnowsDeeds, PastFits, TableFits, leases_of, is_desk, is_desk_role, incumbent_in, turn_word}
 use Rattle.shared_pool.proofs.ViewLists.{sum-set, terms-le, lease_total, leases-set}
+use Rattle.shared_pool.proofs.Runs.{IsAdded, run-reached, reached-sound, goes_on-itself, goes_on-added, all-added}
 
 abbrev pub Table : Type 0
 Table = tables.State State View
@@ -103,6 +110,74 @@ only_holder about s o j k v x other at at' has has' =
     let d = o.turn in
     omega (arith, terms-le turn_of s.views j k v x other at at')
 
+-- ---- the run so far
+module _ (about : Snapshot State) (s : Table) (o : TableFits about s) where
+  -- it leads to what is shown, which is sound
+  pub now_reached : IsReached about.value (incumbent_in s) o.shown
+  now_reached = subst (λ (x : Search). IsReached about.value x.incumbent x.state) o.shown_is (run-reached about.value o.deeds o.run)
+
+  pub now_sound : IsSound (search o.shown (incumbent_in s))
+  now_sound = reached-sound about.value o.shown (incumbent_in s) o.opened now_reached
+
+pub desk_not_spent : (v : View) → v.role ≡ Desk → v.role ≢ Spent
+desk_not_spent v desk spent = let same : Desk ≡ Spent = sym desk ∙ spent in cc
+
+-- the deed of a desk that leaves this shown
+abbrev pub deed_of : View → State → Option ℤ → Deed
+deed_of v shown u = record { seat = v.seat; pool = shown; incumbent = u }
+
+-- The run goes on by none or one deed of the desk at seat id, to this state and incumbent.
+pub record Continues (about : Snapshot State) (s : Table) (o : TableFits about s) (id : ℕ) (v w : View) (shown : State) (u : Option ℤ) : Type 0 where
+  pub deeds : List Deed
+  pub added : IsAdded id o.deeds deeds
+  pub run : IsRun about.value deeds
+  pub shown_is : shown_after about.value deeds ≡ search shown u
+  pub seat : w.seat ≡ v.seat
+  pub goes_on : GoesOn v.seat w.deeds deeds
+
+module _ (about : Snapshot State) (s : Table) (o : TableFits about s) (id : ℕ) (v w : View) (at : HasView s.views id v) (desk : v.role ≡ Desk) where
+  mine : (v.seat ≡ id) × GoesOn v.seat v.deeds o.deeds
+  mine = o.known id v at (desk_not_spent v desk)
+
+  -- by none
+  pub stays : w.seat ≡ v.seat → w.deeds ≡ v.deeds → Continues about s o id v w o.shown (incumbent_in s)
+  stays seat same = record {
+    deeds = o.deeds;
+    added = inl refl;
+    run = o.run;
+    shown_is = o.shown_is;
+    seat = seat;
+    goes_on = subst (λ (ds : List Deed). GoesOn v.seat ds o.deeds) (sym same) mine.1;
+  }
+
+  -- by one
+  longer_run : (event : Option Event) (shown : State) (u : Option ℤ) → Leads event (search o.shown (incumbent_in s)) (search shown u) → IsRun about.value (deed_of v shown u ∷ o.deeds)
+  longer_run event shown u leads = (event, subst (λ (x : Search). Leads event x (search shown u)) (sym o.shown_is) leads, o.run)
+
+  pub goes : (event : Option Event) (shown : State) (u : Option ℤ) → Leads event (search o.shown (incumbent_in s)) (search shown u) → w.seat ≡ v.seat → w.deeds ≡ deed_of v shown u ∷ o.deeds → Continues about s o id v w shown u
+  goes event shown u leads seat is = record {
+    deeds = deed_of v shown u ∷ o.deeds;
+    added = inr (deed_of v shown u, mine.0, refl);
+    run = longer_run event shown u leads;
+    shown_is = refl;
+    seat = seat;
+    goes_on = goes_on-itself v.seat w.deeds (deed_of v shown u ∷ o.deeds) is;
+  }
+
+  -- and the desk is told so
+  pub adds : (event : Option Event) (shown : State) (u : Option ℤ) → v.first ≡ about.value → Leads event (search o.shown (incumbent_in s)) (search shown u) → w.deeds ≡ deed_of v shown u ∷ o.deeds → Adds event (search o.shown (incumbent_in s)) (search shown u) v w
+  adds event shown u first leads is =
+      let g = mine.1 in
+      record {
+        others = g.others;
+        deeds = is ∙ ap (λ (ds : List Deed). deed_of v shown u ∷ ds) g.later_is;
+        others_are = g.others_are;
+        before_is = subst (λ (x : State). shown_after x (g.others ++ v.deeds) ≡ search o.shown (incumbent_in s)) (sym first)
+            (ap (shown_after about.value) (sym g.later_is) ∙ o.shown_is);
+        leads = leads;
+        run = subst₂ IsRun (sym first) (sym is) (longer_run event shown u leads);
+      }
+
 -- ---- the step
 -- What a step of the desk at seat id owes, by which its view v becomes w, the words ws, the slots hs, and the state shown `shown`.
 pub record Moves (about : Snapshot State) (s : Table) (o : TableFits about s) (id : ℕ) (v w : View) (ws : List ℕ) (hs : List (logic.Option State)) (shown : State) : Type 0 where
@@ -114,7 +189,7 @@ pub record Moves (about : Snapshot State) (s : Table) (o : TableFits about s) (i
   pub turn : get_or ws 1 0 + turn_of v ≡ turn_word s + turn_of w
   pub turns : get_or ws 1 0 ≤ 1
   pub in_slot : get_or ws 1 0 ≡ 0 → get_elem? hs 0 ≡ some (some shown)
-  pub reached : IsReached about.value (number_in (get_or ws 0 0)) shown
+  pub continues : Continues about s o id v w shown (number_in (get_or ws 0 0))
   pub job : shown.job ≡ o.shown.job
   pub beginning : shown.beginning ≡ o.shown.beginning
   pub leases : (f : Entry → ℕ) → lease_total f w + total f o.shown.leased ≡ lease_total f v + total f shown.leased
@@ -131,6 +206,9 @@ moved about s o id v w ws hs shown m =
     let here = set_here s.views id w (within s.views id v m.at) in
     let was : desk_count v ≡ 1 = ap (λ (r : Role). cond (is_desk_role r) 1 0) m.was_desk in
     let is : desk_count w ≡ 1 = ap (λ (r : Role). cond (is_desk_role r) 1 0) m.is_desk in
+    let c = m.continues in
+    let mine = o.known id v m.at (desk_not_spent v m.was_desk) in
+    let long : length (set s.views id w) ≡ length s.views = length-set s.views id w in
     record {
       shown = shown;
       words = m.words;
@@ -139,7 +217,12 @@ moved about s o id v w ws hs shown m =
       turns = m.turns;
       in_slot = m.in_slot;
       opened = o.opened;
-      reached = m.reached;
+      deeds = c.deeds;
+      run = c.run;
+      shown_is = c.shown_is;
+      seated = subst (λ (n : ℕ). All (λ (d : Deed). (0 < d.seat) × (d.seat < n)) c.deeds) (sym long)
+          (all-added (λ (d : Deed). (0 < d.seat) × (d.seat < length s.views)) id o.deeds c.deeds
+          (λ d is_mine. (omega (arith, is_mine, far), let there = within s.views id v m.at in omega (arith, is_mine, there))) c.added o.seated);
       job = m.job ∙ o.job;
       beginning = m.beginning ∙ o.beginning;
       leases = permutation_from_totals same_entry entry_decides (leases_of (set s.views id w)) shown.leased
@@ -148,14 +231,37 @@ moved about s o id v w ws hs shown m =
           (λ t. subst (λ (y : View). SeatFits about.value shown (number_in (get_or ws 0 0)) j y y.role) t.1 (as_desk about.value shown (number_in (get_or ws 0 0)) j w w.role m.is_desk m.here))
           (λ t. seat-still-right about.value o.shown shown (incumbent_in s) (number_in (get_or ws 0 0)) j x x.role m.falls m.over (m.others j x t.0 t.1) (o.views j x t.1))
           (at_set s.views id j w x at);
+      known = λ j x at. ⊎_elim
+          (λ t. subst (KnowsDeeds c.deeds j) t.1
+          (λ role. (c.seat ∙ mine.0 ∙ sym t.0, subst (λ (n : ℕ). GoesOn n w.deeds c.deeds) (sym c.seat) c.goes_on)))
+          (λ t role. let k = o.known j x t.1 role in
+          (k.0, goes_on-added id x.seat x.deeds o.deeds c.deeds (λ same. t.0 (sym k.0 ∙ same)) c.added k.1))
+          (at_set s.views id j w x at);
       offered = m.offered;
       root = o.root;
       root_at = set_else s.views id 0 w (λ e. far (sym e)) ∙ o.root_at;
       root_role = o.root_role;
       out = let old = o.out in omega (arith, sum-set desk_count s.views id v w m.at, was, is);
       seats = o.seats;
+      each = long ∙ o.each;
+      gone = o.gone;
+      pasts = λ k d lt. past_still m (slice_index_or o.root.pasts k d) (o.pasts k d lt);
+      spent = λ j x at is_spent. ⊎_elim
+          (λ t. absurd (desk_not_spent x (ap (λ (y : View). y.role) (sym t.1) ∙ m.is_desk) is_spent))
+          (λ t. o.spent j x t.1 is_spent)
+          (at_set s.views id j w x at);
       kept = m.kept;
     }
+  where
+    past_still : (m : Moves about s o id v w ws hs shown) (p : Past) → PastFits o.deeds s.views p → PastFits m.continues.deeds (set s.views id w) p
+    past_still m p h =
+        let other : p.seat ≢ id = λ same.
+        let e : spent_view ≡ v = some-injective spent_view v (sym h.spent ∙ ap (get_elem? s.views) same ∙ m.at) in
+        desk_not_spent v m.was_desk (sym (ap (λ (y : View). y.role) e)) in
+        record {
+          goes_on = goes_on-added id p.seat p.deeds o.deeds m.continues.deeds other m.continues.added h.goes_on;
+          spent = set_else s.views id p.seat w other ∙ h.spent;
+        }
 
 -- ---- a step that leaves the incumbent and the state shown as they are
 -- what such a step owes
@@ -171,6 +277,7 @@ pub record Quiet (about : Snapshot State) (s : Table) (o : TableFits about s) (i
   pub in_slot : get_or ws 1 0 ≡ 0 → get_elem? hs 0 ≡ some (some o.shown)
   pub lease : w.lease ≡ v.lease
   pub best : w.best ≡ v.best
+  pub continues : Continues about s o id v w o.shown (incumbent_in s)
   pub here : ViewFits about.value o.shown (incumbent_in s) w
 
 pub quiet : (about : Snapshot State) (s : Table) (o : TableFits about s) (id : ℕ) (v w : View) (ws : List ℕ) (hs : List (logic.Option State)) → Quiet about s o id v w ws hs → TableFits about (record { words = ws; homes = hs; views = set s.views id w })
@@ -186,7 +293,7 @@ quiet about s o id v w ws hs q =
       turn = q.turn;
       turns = q.turns;
       in_slot = q.in_slot;
-      reached = subst (λ (x : Option ℤ). IsReached about.value x o.shown) u o.reached;
+      continues = subst (Continues about s o id v w o.shown) u q.continues;
       job = refl;
       beginning = refl;
       leases = λ f. ap (λ (l : Option Entry). total f (option_to_list l) + total f o.shown.leased) q.lease;

@@ -1,11 +1,11 @@
 -- Seating a desk out and taking it in keeps the rule.
-use Rattle.std.proofs.Common.{◌≡◌, ℕ, ◌+◌, ◌≤◌, ◌≢◌, ◌⊎◌, inl, inr, ⊎_elim, ℤ, ◌<ℤ◌, ◌≤ℤ◌, Bool, true, false, cond, ◌||◌, [], ◌∷◌, ◌++◌, length, set, Option, None, Some, refl, sym, ap, ◌∙◌, subst, arith}
-use Rattle.std.specs.Prelude.{⊤, MatchOption, option_to_list, int_lt}
+use Rattle.std.proofs.Common.{◌≡◌, ℕ, zero, suc, ◌+◌, ◌≤◌, ◌≢◌, ◌⊎◌, inl, inr, ⊎_elim, ℤ, ◌<ℤ◌, ◌≤ℤ◌, Bool, true, false, cond, ◌||◌, List, [], ◌∷◌, ◌++◌, length, set, All, Option, None, Some, refl, sym, ap, ◌∙◌, subst, arith, append-nil, length-append, length-set}
+use Rattle.std.specs.Prelude.{⊤, MatchOption, option_to_list, int_lt, slice_index_or}
 use Rattle.std.specs.declared.snapshot.Snapshot.{Snapshot}
 use Rattle.std.proofs.lemmas.Bool.{cases_Bool, false≢true}
 use Rattle.std.proofs.lemmas.Int.{ints}
 use Rattle.std.proofs.lemmas.List.Sums.{sum_by-append}
-use mathlib.Core.Option.{some-injective}
+use mathlib.Core.Option.{some, some-injective, some-ne-none}
 use mathlib.Core.Logic.{dite}
 use native.Mathlib.Decide.{ℕ_discrete}
 use lib.ListN.{get_elem?}
@@ -22,14 +22,17 @@ use Rattle.pool_core.specs.Job.{IsOffer, start_cost, cost_in}
 use Rattle.pool_core.specs.State.{State}
 use Rattle.pool_core.specs.Best.{better_of}
 use Rattle.pool_core.proofs.Entries.{same_entry, entry_decides}
+use Rattle.shared_pool.specs.declared.deed.Past.{Past}
 use Rattle.shared_pool.specs.declared.view.View.{View}
 use Rattle.shared_pool.specs.declared.view.Role.{Role}
 use Rattle.shared_pool.specs.declared.view.Role.TheVariants.{Root, Desk, Spent}
 use Rattle.pool_core.specs.Seats.{StopsWithin}
 use Rattle.shared_pool.specs.Views.{root_after_seating, root_after_joining, seated_view, spent_view}
-use Rattle.shared_pool.specs.TableFits.{HasView, HasOffered, SeatFits, ViewFits, RootFits, TableFits, leases_of, is_desk, is_desk_role, incumbent_in}
-use Rattle.shared_pool.proofs.ViewLists.{sum-set, leases-set, leases-append}
-use Rattle.shared_pool.proofs.Moves.{Table, of_desk, turn_of, desk_count, within}
+use Rattle.shared_pool.specs.Runs.{GoesOn, HasPast}
+use Rattle.shared_pool.specs.TableFits.{HasView, HasOffered, SeatFits, ViewFits, RootFits, KnowsDeeds, PastFits, TableFits, leases_of, is_desk, is_desk_role, incumbent_in}
+use Rattle.shared_pool.proofs.ViewLists.{sum-set, term-le, leases-set, leases-append}
+use Rattle.shared_pool.proofs.Runs.{all-cons}
+use Rattle.shared_pool.proofs.Moves.{Table, of_desk, turn_of, desk_count, within, desk_not_spent}
 
 -- what is known of the root desk
 root-view : (first shown : State) (u : Option ℤ) (j : ℕ) (v : View) (r : Role) → r ≡ Root → SeatFits first shown u j v r → ViewFits first shown u v × RootFits first j v
@@ -45,6 +48,22 @@ more-seats : (n m held : ℕ) (stop : Option Stop) → n ≤ m → StopsWithin n
 more-seats n m held None le h = tt
 more-seats n m held (Some (PoolFull count)) le h = omega arith
 more-seats n m held (Some (Budget leases)) le h = omega arith
+
+root_not_spent : (v : View) → v.role ≡ Root → v.role ≢ Spent
+root_not_spent v root spent = let same : Root ≡ Spent = sym root ∙ spent in cc
+
+-- the seat of a desk that was taken in isn't the root desk's
+past_far : (vs : List View) (v : View) (j : ℕ) → HasView vs 0 v → v.role ≡ Root → HasView vs j spent_view → j ≢ 0
+past_far vs v j at is_root there same =
+    let e : spent_view ≡ v = some-injective spent_view v (sym there ∙ ap (get_elem? vs) same ∙ at) in
+    root_not_spent v is_root (sym (ap (λ (y : View). y.role) e))
+
+-- one at the end of a list is the last
+at_end : {A : Type 0} (l : List A) (a b : A) (j : ℕ) → get_elem? (l ++ a ∷ []) j ≡ some b → (get_elem? l j ≡ some b) ⊎ ((j ≡ length l) × (a ≡ b))
+at_end [] a b zero e = inr (refl, some-injective a b e)
+at_end [] a b (suc j) e = absurd (some-ne-none b (sym e))
+at_end (x ∷ xs) a b zero e = inl e
+at_end (x ∷ xs) a b (suc j) e = ⊎_elim (λ t. inl t) (λ t. inr (ap suc t.0, t.1)) (at_end xs a b j e)
 
 -- ---- a desk is seated out
 module _ (about : Snapshot State) (s : Table) (o : TableFits about s) (v : View) (at : HasView s.views 0 v) (is_root : v.role ≡ Root) where
@@ -63,6 +82,13 @@ module _ (about : Snapshot State) (s : Table) (o : TableFits about s) (v : View)
       let old_out = o.out in
       let old_seats = o.seats in
       let root_count : desk_count v ≡ 0 = ap (λ (r : Role). cond (is_desk_role r) 1 0) is_root in
+      let long : length (set s.views 0 w) ≡ length s.views = length-set s.views 0 w in
+      let longer : length (set s.views 0 w ++ d ∷ []) ≡ length s.views + 1 = omega (arith, length-append (set s.views 0 w) (d ∷ []), long) in
+      let new_knows : GoesOn d.seat [] o.deeds = record {
+        others = o.deeds;
+        later_is = sym (append-nil o.deeds);
+        others_are = λ k e lt same. let h = (o.seated k e lt).1 in omega (arith, h, same, o.each, seats_root);
+      } in
       let root_knows : ViewFits about.value o.shown (incumbent_in s) w =
       record { first_is = k.first_is; turn = k.turn; seen = k.seen; seen_start = k.seen_start; best = k.best; ended = k.ended } in
       record {
@@ -73,7 +99,10 @@ module _ (about : Snapshot State) (s : Table) (o : TableFits about s) (v : View)
         turns = o.turns;
         in_slot = o.in_slot;
         opened = o.opened;
-        reached = o.reached;
+        deeds = o.deeds;
+        run = o.run;
+        shown_is = o.shown_is;
+        seated = λ k e lt. let h = o.seated k e lt in (h.0, let less = h.1 in omega (arith, less, longer));
         job = o.job;
         beginning = o.beginning;
         leases = permutation_from_totals same_entry entry_decides (leases_of (set s.views 0 w ++ d ∷ [])) o.shown.leased
@@ -88,15 +117,40 @@ module _ (about : Snapshot State) (s : Table) (o : TableFits about s) (v : View)
             (λ (new : d ≡ x). subst (λ (y : View). SeatFits about.value o.shown (incumbent_in s) j y y.role) new
             (record { first_is = k.first_is; turn = λ has. absurd (false≢true has); seen = k.seen; seen_start = k.seen_start; best = tt; ended = λ has. absurd (false≢true has) }))
             (at_snoc (set s.views 0 w) d x j there);
+        known = λ j x there. ⊎_elim
+            (λ earlier. ⊎_elim
+            (λ t. subst (KnowsDeeds o.deeds j) t.1 (subst (λ (n : ℕ). KnowsDeeds o.deeds n w) (sym t.0) (o.known 0 v at)))
+            (λ t. o.known j x t.1)
+            (at_set s.views 0 j w x earlier))
+            (λ t. subst (KnowsDeeds o.deeds j) t.1 (λ role. (omega (arith, t.0, long, o.each, seats_root), new_knows)))
+            (at_end (set s.views 0 w) d x j there);
         offered = still-there (incumbent_in s) o.offered;
         root = w;
         root_at = at_longer (set s.views 0 w) (d ∷ []) 0 w (set_here s.views 0 w (within s.views 0 v at));
         root_role = is_root;
         out = omega (arith, sum_by-append desk_count (set s.views 0 w) (d ∷ []), sum-set desk_count s.views 0 v w at, out_root, root_count);
         seats = omega (arith, out_root, seats_root);
+        each = omega (arith, longer, o.each, seats_root);
+        gone = let gone = o.gone in let same = ap (λ (x : View). length x.pasts) same_root in omega (arith, gone, same, out_root, seats_root);
+        pasts = λ k e lt. past_still (slice_index_or v.pasts k e) (subst (λ (x : View). All (PastFits o.deeds s.views) x.pasts) same_root o.pasts k e lt);
+        spent = λ j x there is_spent. ⊎_elim
+            (λ earlier. ⊎_elim
+            (λ t. absurd (root_not_spent x (ap (λ (y : View). y.role) (sym t.1) ∙ is_root) is_spent))
+            (λ t. subst (λ (y : View). HasPast y.pasts j) same_root (o.spent j x t.1 is_spent))
+            (at_set s.views 0 j w x earlier))
+            (λ (new : d ≡ x). absurd (desk_not_spent x (ap (λ (y : View). y.role) (sym new)) is_spent))
+            (at_snoc (set s.views 0 w) d x j there);
         kept = more-seats o.root.seats w.seats (o.shown.kept + length o.shown.leased) o.shown.stop (omega (arith, seats_root)) o.kept;
       }
     where
+      past_still : (p : Past) → PastFits o.deeds s.views p → PastFits o.deeds (set s.views 0 (root_after_seating v) ++ seated_view v ∷ []) p
+      past_still p h =
+          let w = root_after_seating v in
+          record {
+            goes_on = h.goes_on;
+            spent = at_longer (set s.views 0 w) (seated_view v ∷ []) p.seat spent_view (set_else s.views 0 p.seat w (past_far s.views v p.seat at is_root h.spent) ∙ h.spent);
+          }
+
       still-there : (u : Option ℤ) → MatchOption u ⊤ (HasOffered s.views) → MatchOption u ⊤ (HasOffered (set s.views 0 (root_after_seating v) ++ seated_view v ∷ []))
       still-there None h = tt
       still-there (Some c) h =
@@ -154,6 +208,10 @@ better-cost i c (Some b) (Some o) h k which =
     stays (inl e) l = e
     stays (inr e) l = let same : o.1 ≡ c = cc in let low = h.1 in ap Some (omega (arith, ints, same, low))
 
+-- a desk that was taken in stays one
+more_pasts : (p : Past) (ps : List Past) (j : ℕ) → HasPast ps j → HasPast (p ∷ ps) j
+more_pasts p ps j h = (h.0, (suc h.1.0, let lt = h.1.1 in omega (arith, lt), h.1.2), h.2)
+
 module _ (about : Snapshot State) (s : Table) (o : TableFits about s) (v w : View) (other : ℕ) (at : HasView s.views 0 v) (is_root : v.role ≡ Root) (far : other ≢ 0) (at' : HasView s.views other w) (is_desk : w.role ≡ Desk) (no_turn : w.has_turn ≡ false) (no_lease : w.lease ≡ None) where
   known_root : ViewFits about.value o.shown (incumbent_in s) v × RootFits about.value 0 v
   known_root = root-view about.value o.shown (incumbent_in s) 0 v v.role is_root (o.views 0 v at)
@@ -178,6 +236,8 @@ module _ (about : Snapshot State) (s : Table) (o : TableFits about s) (v w : Vie
       let root_count : desk_count v ≡ 0 = ap (λ (r : Role). cond (is_desk_role r) 1 0) is_root in
       let joined_count : desk_count w ≡ 1 = ap (λ (r : Role). cond (is_desk_role r) 1 0) is_desk in
       let rests : turn_of w ≡ 0 = ap (λ (x : Bool). cond x 1 0) no_turn in
+      let its = o.known other w at' (desk_not_spent w is_desk) in
+      let long : length (set vs other spent_view) ≡ length s.views = length-set vs other spent_view ∙ length-set s.views 0 b in
       let root_knows : ViewFits about.value o.shown (incumbent_in s) b =
       record {
         first_is = k.first_is;
@@ -195,7 +255,10 @@ module _ (about : Snapshot State) (s : Table) (o : TableFits about s) (v w : Vie
         turns = o.turns;
         in_slot = o.in_slot;
         opened = o.opened;
-        reached = o.reached;
+        deeds = o.deeds;
+        run = o.run;
+        shown_is = o.shown_is;
+        seated = λ k e lt. let h = o.seated k e lt in (h.0, let less = h.1 in omega (arith, less, long));
         job = o.job;
         beginning = o.beginning;
         leases = permutation_from_totals same_entry entry_decides (leases_of (set vs other spent_view)) o.shown.leased
@@ -217,15 +280,49 @@ module _ (about : Snapshot State) (s : Table) (o : TableFits about s) (v w : Vie
             (λ t. o.views j x t.1)
             (at_set s.views 0 j b x later.1))
             (at_set vs other j spent_view x now);
+        known = λ j x now. ⊎_elim
+            (λ t. subst (KnowsDeeds o.deeds j) t.1 (λ role. absurd (role refl)))
+            (λ later. ⊎_elim
+            (λ t. subst (KnowsDeeds o.deeds j) t.1 (subst (λ (n : ℕ). KnowsDeeds o.deeds n b) (sym t.0) (o.known 0 v at)))
+            (λ t. o.known j x t.1)
+            (at_set s.views 0 j b x later.1))
+            (at_set vs other j spent_view x now);
         offered = still-there (incumbent_in s) refl o.offered;
         root = b;
         root_at = here;
         root_role = is_root;
         out = omega (arith, sum-set desk_count s.views 0 v b at, sum-set desk_count vs other w spent_view there, out_root, root_count, joined_count);
         seats = omega (arith, out_root, seats_root);
+        each = omega (arith, long, o.each, seats_root);
+        gone = let gone = o.gone in let same = ap (λ (x : View). length x.pasts) same_root in
+            let some_out = term-le desk_count s.views other w at' in omega (arith, gone, same, out_root, seats_root, joined_count, some_out);
+        pasts = all-cons (PastFits o.deeds (set vs other spent_view)) (record { seat = w.seat; deeds = w.deeds }) v.pasts
+            (record {
+              goes_on = its.1;
+              spent = subst (λ (n : ℕ). HasView (set vs other spent_view) n spent_view) (sym its.0) (set_here vs other spent_view (within vs other w there));
+            })
+            (λ k e lt. past_still (slice_index_or v.pasts k e) (subst (λ (x : View). All (PastFits o.deeds s.views) x.pasts) same_root o.pasts k e lt));
+        spent = λ j x now is_spent. ⊎_elim
+            (λ t. (record { seat = w.seat; deeds = w.deeds }, (0, omega arith, refl), its.0 ∙ sym t.0))
+            (λ later. ⊎_elim
+            (λ t. absurd (root_not_spent x (ap (λ (y : View). y.role) (sym t.1) ∙ is_root) is_spent))
+            (λ t. more_pasts (record { seat = w.seat; deeds = w.deeds }) v.pasts j (subst (λ (y : View). HasPast y.pasts j) same_root (o.spent j x t.1 is_spent)))
+            (at_set s.views 0 j b x later.1))
+            (at_set vs other j spent_view x now);
         kept = subst (λ (n : ℕ). StopsWithin n (o.shown.kept + length o.shown.leased) o.shown.stop) seats_root o.kept;
       }
     where
+      past_still : (p : Past) → PastFits o.deeds s.views p → PastFits o.deeds (set (set s.views 0 (root_after_joining v w)) other spent_view) p
+      past_still p h =
+          let b = root_after_joining v w in
+          let elsewhere : p.seat ≢ other = λ same.
+          let e : spent_view ≡ w = some-injective spent_view w (sym h.spent ∙ ap (get_elem? s.views) same ∙ at') in
+          desk_not_spent w is_desk (sym (ap (λ (y : View). y.role) e)) in
+          record {
+            goes_on = h.goes_on;
+            spent = set_else (set s.views 0 b) other p.seat spent_view elsewhere ∙ set_else s.views 0 p.seat b (past_far s.views v p.seat at is_root h.spent) ∙ h.spent;
+          }
+
       either : (a b : Bool) → (a || b) ≡ true → (a ≡ true) ⊎ (b ≡ true)
       either true b e = inl refl
       either false b e = inr e

@@ -24,21 +24,22 @@ use Rattle.siting_definitions.specs.Point.{Pt}
 use Rattle.pool_core.specs.Job.{Job, IsOffer, start_cost, cost_in}
 use Rattle.pool_core.specs.State.{State, open_count}
 use Rattle.pool_core.specs.Verdict.{finding_of, is_part}
-use Rattle.pool_core.specs.Machine.{Leases, Halts, Returns, IsSeen, first_stop, is_kept}
+use Rattle.pool_core.specs.Machine.{Event, Lease, Halt, Return, Leases, Halts, Returns, IsSeen, first_stop, is_kept}
 use Rattle.pool_core.specs.PoolAnswers.{LeaseAnswers}
 use Rattle.pool_core.specs.Sound.{IsSound, EntryFits}
 use Rattle.pool_core.proofs.Entries.{same_entry, entry_decides}
+use Rattle.shared_pool.specs.declared.deed.Deed.{Deed}
 use Rattle.shared_pool.specs.declared.view.View.{View}
 use Rattle.shared_pool.specs.declared.view.Role.{Role}
 use Rattle.shared_pool.specs.declared.view.Role.TheVariants.{Root, Desk, Spent}
 use Rattle.pool_core.specs.Seats.{StopsWithin}
 use Rattle.shared_pool.specs.Views.{view_after_loss, view_after_win, view_after_lease, view_after_return, lease_in, is_end}
-use Rattle.shared_pool.specs.TableFits.{HasView, HasOffered, IsReached, IsOver, SeatFits, ViewFits, TableFits, leases_of, is_desk_role, incumbent_in, turn_word}
+use Rattle.shared_pool.specs.Runs.{search, Leads, Adds, AddsReturn, IsEventOf}
+use Rattle.shared_pool.specs.TableFits.{HasView, HasOffered, IsOver, SeatFits, ViewFits, TableFits, leases_of, is_desk_role, incumbent_in, turn_word}
 use Rattle.shared_pool.specs.Steps.{Seat, IsAtRest, Wins, told_by_take, told_by_lease, told_by_return}
 use Rattle.shared_pool.specs.Calls.{IsCentreSeen, IsFound}
 use Rattle.shared_pool.proofs.ViewLists.{lease_total, leases-set, has_lease, leases-count, term-le, sums-le, sums-less}
-use Rattle.shared_pool.proofs.Runs.{search, reached-lease, reached-halt, reached-return, reached-sound}
-use Rattle.shared_pool.proofs.Moves.{Table, moved, quiet, of_desk, only_holder, still-offered, turn_of, desk_count, within}
+use Rattle.shared_pool.proofs.Moves.{Table, Continues, moved, quiet, of_desk, only_holder, still-offered, turn_of, desk_count, within, now_sound, deed_of, stays, goes, adds}
 
 -- ---- a take
 module _ (about : Snapshot State) (s : Table) (o : TableFits about s) (id : ℕ) (v : View) (at : HasView s.views id v) (desk : v.role ≡ Desk) where
@@ -77,6 +78,7 @@ module _ (about : Snapshot State) (s : Table) (o : TableFits about s) (id : ℕ)
         in_slot = λ zero. absurd (omega (arith, second, zero));
         lease = refl;
         best = refl;
+        continues = stays about s o id v (view_after_win v o.shown) at desk refl refl;
         here = record {
           first_is = known.first_is;
           turn = λ has. refl;
@@ -109,6 +111,7 @@ module _ (about : Snapshot State) (s : Table) (o : TableFits about s) (id : ℕ)
         in_slot = λ zero. absurd (omega (arith, second, zero));
         lease = refl;
         best = refl;
+        continues = stays about s o id v (view_after_loss v) at desk refl refl;
         here = record {
           first_is = known.first_is;
           turn = known.turn;
@@ -134,7 +137,7 @@ takes_turn about slots id m desk s o wide at fits =
           job = o.job ∙ sym (ap (λ (first : State). first.job) (known about s o id m.0 at desk).first_is);
           leased = leased about s o id m.0 at desk;
           waiting = subst (λ (first : State). All (EntryFits first.job.instance) o.shown.waiting) (sym (known about s o id m.0 at desk).first_is)
-              (subst (λ (j : Job). All (EntryFits j.instance) o.shown.waiting) o.job (reached-sound about.value o.shown (incumbent_in s) o.opened o.reached).waiting);
+              (subst (λ (j : Job). All (EntryFits j.instance) o.shown.waiting) o.job (now_sound about s o).waiting);
         }),
         λ other. absurd (other free),
       ),
@@ -148,10 +151,10 @@ takes_turn about slots id m desk s o wide at fits =
     ))
 
 -- ---- a give
--- What a desk owes that gives the turn: its view v becomes w, and the pool that it took is given as `pool`.
-pub record Gives (first : State) (v w : View) (pool : State) : Type 0 where
-  -- a run that leads to what was taken leads on to what is given
-  pub reached : (u : Option ℤ) → MatchOption v.seen ⊤ (IsAtMost u) → MatchOption (start_cost first.job) ⊤ (IsAtMost v.seen) → IsReached first u v.taken → IsReached first u pool
+-- What a desk owes that gives the turn: its view v becomes w, and the pool that it took is given as `pool`, by this event or none.
+pub record Gives (event : Option Event) (first : State) (v w : View) (pool : State) : Type 0 where
+  -- the event leads from what was taken to what is given
+  pub leads : (u : Option ℤ) → MatchOption v.seen ⊤ (IsAtMost u) → MatchOption (start_cost first.job) ⊤ (IsAtMost v.seen) → Leads event (search v.taken u) (search pool u)
   pub job : pool.job ≡ v.taken.job
   pub beginning : pool.beginning ≡ v.taken.beginning
   pub leases : (f : Entry → ℕ) → lease_total f w + total f v.taken.leased ≡ lease_total f v + total f pool.leased
@@ -163,6 +166,7 @@ pub record Gives (first : State) (v w : View) (pool : State) : Type 0 where
 -- what of the desk stays
 pub record SameDesk (v w : View) : Type 0 where
   pub role_is : w.role ≡ Desk
+  pub seat_is : w.seat ≡ v.seat
   pub first_is : w.first ≡ v.first
   pub seen_is : w.seen ≡ v.seen
   pub best_is : w.best ≡ v.best
@@ -201,23 +205,41 @@ module _ (about : Snapshot State) (s : Table) (o : TableFits about s) where
       let zero : has_lease v ≡ 0 = ap (λ (l : Option Entry). cond (is_some l) 1 0) no_lease in
       omega (arith, leased-count, one, zero, sums-less has_lease desk_count s.views id v (λ j v at. lease-desk about.value o.shown (incumbent_in s) j v (o.views j v at)) at)
 
-gives_turn : (about : Snapshot State) (slots id : ℕ) (v w : View) (pool : State) (tells : ℕ → Seat → Type 0) → v.role ≡ Desk → v.has_turn ≡ true → SameDesk v w → ((first : State) → first ≡ v.first → Gives first v w pool) → ((found : ℕ) → tells found (w, [])) → Allows (TableFits about) slots id (v, (0, pool) ∷ []) 1 (λ _. 0) tells
-gives_turn about slots id v w pool tells desk has same event told s o wide at fits = (
+gives_turn : (about : Snapshot State) (slots id : ℕ) (v : View) (after : List Deed → View) (pool : State) (event : Option Event) (tells : ℕ → Seat → Type 0) → v.role ≡ Desk → v.has_turn ≡ true → ((ds : List Deed) → SameDesk v (after ds)) → ((ds : List Deed) → (after ds).deeds ≡ ds)
+    → ((first : State) (ds : List Deed) → first ≡ v.first → Gives event first v (after ds) pool)
+    → ((found : ℕ) (ds : List Deed) (u : Option ℤ) → Adds event (search v.taken u) (search pool u) v (after ds) → tells found (after ds, []))
+    → Allows (TableFits about) slots id (v, (0, pool) ∷ []) 1 (λ _. 0) tells
+gives_turn about slots id v after pool event tells desk has stays_so deeds_are owed told s o wide at fits = (
   w,
   gives,
   tt,
   given,
-  told (turn_word s),
+  told (turn_word s) ds (incumbent_in s)
+      (subst (λ (x : State). Adds event (search x (incumbent_in s)) (search pool (incumbent_in s)) v w) (sym taken)
+      (adds about s o id v w at desk event pool (incumbent_in s) known_v.first_is leads (deeds_are ds))),
 )
   where
+    ds : List Deed
+    ds = deed_of v pool (incumbent_in s) ∷ o.deeds
+
+    w : View
+    w = after ds
+
+    same : SameDesk v w
+    same = stays_so ds
+
     known_v : ViewFits about.value o.shown (incumbent_in s) v
     known_v = of_desk about.value o.shown (incumbent_in s) id v v.role desk (o.views id v at)
 
-    g : Gives about.value v w pool
-    g = event about.value (sym known_v.first_is)
+    g : Gives event about.value v w pool
+    g = owed about.value ds (sym known_v.first_is)
 
     taken : v.taken ≡ o.shown
     taken = known_v.turn has
+
+    leads : Leads event (search o.shown (incumbent_in s)) (search pool (incumbent_in s))
+    leads = subst (λ (x : State). Leads event (search x (incumbent_in s)) (search pool (incumbent_in s))) taken
+        (g.leads (incumbent_in s) known_v.seen known_v.seen_start)
 
     given : TableFits about (record { words = set s.words 1 0; homes = set s.homes 0 (some pool); views = set s.views id w })
     given =
@@ -230,7 +252,7 @@ gives_turn about slots id v w pool tells desk has same event told s o wide at fi
         let none_more : turn_of w ≡ 0 = ap (λ b. cond b 1 0) same.turn in
         let sum = o.turn in
         let most = o.turns in
-        let sound : IsSound (search o.shown (incumbent_in s)) = reached-sound about.value o.shown (incumbent_in s) o.opened o.reached in
+        let sound : IsSound (search o.shown (incumbent_in s)) = now_sound about s o in
         moved about s o id v w (set s.words 1 0) (set s.homes 0 (some pool)) pool
         (record {
           at = at;
@@ -241,8 +263,8 @@ gives_turn about slots id v w pool tells desk has same event told s o wide at fi
           turn = omega (arith, second, mine, none_more, term-le turn_of s.views id v at);
           turns = omega (arith, second);
           in_slot = λ free. set_here s.homes 0 (some pool) (omega arith);
-          reached = subst (λ (x : Option ℤ). IsReached about.value x pool) still
-              (g.reached (incumbent_in s) known_v.seen known_v.seen_start (subst (IsReached about.value (incumbent_in s)) (sym taken) o.reached));
+          continues = subst (Continues about s o id v w pool) still
+              (goes about s o id v w at desk event pool (incumbent_in s) leads same.seat_is (deeds_are ds));
           job = g.job ∙ ap (λ (x : State). x.job) taken;
           beginning = g.beginning ∙ ap (λ (x : State). x.beginning) taken;
           leases = λ f. subst (λ (x : State). lease_total f w + total f x.leased ≡ lease_total f v + total f pool.leased) taken (g.leases f);
@@ -273,9 +295,9 @@ ended-after true answer end e = inl refl
 ended-after false answer end e = inr (end e)
 
 -- the pool is given as it was taken
-idles : (first : State) (v : View) (answer : LeaseAnswer) (pool : State) → v.lease ≡ None → lease_in answer ≡ None → pool ≡ v.taken → (is_end answer ≡ true → IsOver pool) → Gives first v (view_after_lease v answer pool) pool
-idles first v answer pool no_lease nothing same end = record {
-  reached = λ u seen start r. subst (IsReached first u) (sym same) r;
+idles : (first : State) (v : View) (ds : List Deed) (answer : LeaseAnswer) (pool : State) → v.lease ≡ None → lease_in answer ≡ None → pool ≡ v.taken → (is_end answer ≡ true → IsOver pool) → Gives None first v (view_after_lease v ds answer pool) pool
+idles first v ds answer pool no_lease nothing same end = record {
+  leads = λ u seen start. ap (λ (x : State). search x u) same;
   job = ap (λ (x : State). x.job) same;
   beginning = ap (λ (x : State). x.beginning) same;
   leases = λ f. let a = ap (λ (l : Option Entry). total f (option_to_list l)) no_lease in let b = ap (λ (l : Option Entry). total f (option_to_list l)) nothing in
@@ -286,9 +308,9 @@ idles first v answer pool no_lease nothing same end = record {
 }
 
 -- the stop comes with the budget's end
-halts : (first : State) (v : View) (stop : Stop) (pool : State) → v.lease ≡ None → pool.stop ≡ Some stop → Halts v.taken pool → Gives first v (view_after_lease v (Stopped stop) pool) pool
-halts first v stop pool no_lease said h = record {
-  reached = λ u seen start r. reached-halt first v.taken pool u r h;
+halts : (first : State) (v : View) (ds : List Deed) (stop : Stop) (pool : State) → v.lease ≡ None → pool.stop ≡ Some stop → Halts v.taken pool → Gives (Some Halt) first v (view_after_lease v ds (Stopped stop) pool) pool
+halts first v ds stop pool no_lease said h = record {
+  leads = λ u seen start. (h, refl);
   job = ap (λ (x : State). x.job) h.halted;
   beginning = ap (λ (x : State). x.beginning) h.halted;
   leases = λ f. let a = ap (λ (l : Option Entry). total f (option_to_list l)) no_lease in let c = ap (λ (x : State). total f x.leased) h.halted in omega (arith, a, c);
@@ -302,9 +324,9 @@ halts first v stop pool no_lease said h = record {
 }
 
 -- a waiting entry is leased
-leases : (first : State) (v : View) (e : Entry) (pool : State) → v.lease ≡ None → Leases e v.taken pool → Gives first v (view_after_lease v (Leased e) pool) pool
-leases first v e pool no_lease h = record {
-  reached = λ u seen start r. reached-lease first v.taken pool u e r h;
+leases : (first : State) (v : View) (ds : List Deed) (e : Entry) (pool : State) → v.lease ≡ None → Leases e v.taken pool → Gives (Some (Lease e)) first v (view_after_lease v ds (Leased e) pool) pool
+leases first v ds e pool no_lease h = record {
+  leads = λ u seen start. (h, refl);
   job = h.job;
   beginning = h.beginning;
   leases = λ f. let a = ap (λ (l : Option Entry). total f (option_to_list l)) no_lease in omega (arith, a, total-permutation f (e ∷ v.taken.leased) pool.leased h.leased);
@@ -320,16 +342,21 @@ leases first v e pool no_lease h = record {
     still true more = refl
     still false more = more
 
-lease_gives : (first : State) (v : View) (answer : LeaseAnswer) (pool : State) → v.lease ≡ None → LeaseAnswers answer v.taken pool → Gives first v (view_after_lease v answer pool) pool
-lease_gives first v (Stopped stop) pool no_lease h = ⊎_elim
-    (λ same. idles first v (Stopped stop) pool no_lease refl same (λ end going. absurd (let no : Some stop ≡ None = sym h.0 ∙ going in cc)))
-    (λ (k : Halts v.taken pool). halts first v stop pool no_lease h.0 k) h.1
-lease_gives first v Done pool no_lease h =
+-- what a desk owes that gives the turn after this answer
+abbrev AnswerGives : View → LeaseAnswer → State → Type 0
+AnswerGives v answer pool =
+    (event : Option Event) × IsEventOf answer event × ((first : State) (ds : List Deed) → Gives event first v (view_after_lease v ds answer pool) pool)
+
+lease_gives : (v : View) (answer : LeaseAnswer) (pool : State) → v.lease ≡ None → LeaseAnswers answer v.taken pool → AnswerGives v answer pool
+lease_gives v (Stopped stop) pool no_lease h = ⊎_elim
+    (λ same. (None, inl refl, λ first ds. idles first v ds (Stopped stop) pool no_lease refl same (λ end going. absurd (let no : Some stop ≡ None = sym h.0 ∙ going in cc))))
+    (λ (k : Halts v.taken pool). (Some Halt, inr refl, λ first ds. halts first v ds stop pool no_lease h.0 k)) h.1
+lease_gives v Done pool no_lease h =
     let waiting : length pool.waiting ≡ 0 = ap (λ (x : State). length x.waiting) h.3 ∙ ap (λ (xs : List Entry). length xs) h.1 in
     let leased : length pool.leased ≡ 0 = ap (λ (x : State). length x.leased) h.3 ∙ ap (λ (xs : List Entry). length xs) h.2 in
-    idles first v Done pool no_lease refl h.3 (λ end going. omega arith)
-lease_gives first v Idle pool no_lease h = idles first v Idle pool no_lease refl h.3 (λ end. absurd (false≢true end))
-lease_gives first v (Leased e) pool no_lease h = leases first v e pool no_lease h
+    (None, refl, λ first ds. idles first v ds Done pool no_lease refl h.3 (λ end going. omega arith))
+lease_gives v Idle pool no_lease h = (None, refl, λ first ds. idles first v ds Idle pool no_lease refl h.3 (λ end. absurd (false≢true end)))
+lease_gives v (Leased e) pool no_lease h = (Some (Lease e), refl, λ first ds. leases first v ds e pool no_lease h)
 
 -- the pool that a seat holds first
 abbrev pub first_held : State → List (ℕ × State) → State
@@ -345,10 +372,15 @@ pub gives_after_lease : (about : Snapshot State) (slots id : ℕ) (m : Seat) (an
     → Allows (TableFits about) slots id m 1 (λ _. 0) (λ _. told_by_lease answer (step slots 1 0 0 none) m 0)
 gives_after_lease about slots id m answer pool desk has no_lease holds h =
     subst (λ (x : Seat). Allows (TableFits about) slots id x 1 (λ _. 0) (λ _. told_by_lease answer (step slots 1 0 0 none) x 0)) (λ i. (m.0, sym holds i))
-    (gives_turn about slots id m.0 (view_after_lease m.0 answer pool) pool (λ _. told_by_lease answer (step slots 1 0 0 none) (m.0, (0, pool) ∷ []) 0) desk has
-    (record { role_is = desk; first_is = refl; seen_is = refl; best_is = refl; turn = refl })
-    (λ first e. lease_gives first m.0 answer pool no_lease h)
-    (λ found other same. ap (λ (p : State). (view_after_lease m.0 answer p, [])) (held_pool pool other same)))
+    (let g = lease_gives m.0 answer pool no_lease h in
+    gives_turn about slots id m.0 (λ ds. view_after_lease m.0 ds answer pool) pool g.0 (λ _. told_by_lease answer (step slots 1 0 0 none) (m.0, (0, pool) ∷ []) 0) desk has
+    (λ ds. record { role_is = desk; seat_is = refl; first_is = refl; seen_is = refl; best_is = refl; turn = refl })
+    (λ ds. refl)
+    (λ first ds e. g.2 first ds)
+    (λ found ds u added other same. (
+      ap (λ (p : State). (view_after_lease m.0 ds answer p, [])) (held_pool pool other same),
+      record { event = g.0; event_is = g.1; incumbent = u; adds = added },
+    )))
 
 -- ---- a lease that comes back
 -- what a desk has seen may be seen where its lease comes back
@@ -386,15 +418,17 @@ over-after false count stop stop' e none_now = sym e ∙ none_now
 over-after true count None stop' e none_now = refl
 over-after true count (Some s) stop' e none_now = absurd (let no : Some s ≡ None = sym e ∙ none_now in cc)
 
-return_gives : (first : State) (v : View) (e : Entry) (pool : State) → first ≡ v.first → v.taken.job ≡ v.first.job → v.lease ≡ Some e → (is_part (finding_of v.first.job e v.seen) ≡ true → MatchOption (centre_cost v.first.job.instance e.square) ⊤ (IsAtMost v.seen))
-    → Returns e v.seen (finding_of v.first.job e v.seen) v.taken pool → Gives first v (view_after_return v pool) pool
-return_gives first v e pool first_is job has centre h = record {
-  reached = λ u seen start r. reached-return first v.taken pool u v.seen e r
-      (record {
-        seen_is = seen-fits v.taken.job u v.seen seen (subst (λ (j : Job). MatchOption (start_cost j) ⊤ (IsAtMost v.seen)) (same_job ∙ sym job) start);
-        centre = subst (λ (j : Job). is_part (finding_of j e v.seen) ≡ true → MatchOption (centre_cost j.instance e.square) ⊤ (IsAtMost v.seen)) (sym job) centre;
-      })
-      (subst (λ (j : Job). Returns e v.seen (finding_of j e v.seen) v.taken pool) (sym job) h);
+return_gives : (first : State) (v : View) (ds : List Deed) (e : Entry) (pool : State) → first ≡ v.first → v.taken.job ≡ v.first.job → v.lease ≡ Some e → (is_part (finding_of v.first.job e v.seen) ≡ true → MatchOption (centre_cost v.first.job.instance e.square) ⊤ (IsAtMost v.seen))
+    → Returns e v.seen (finding_of v.first.job e v.seen) v.taken pool → Gives (Some (Return e v.seen)) first v (view_after_return v ds pool) pool
+return_gives first v ds e pool first_is job has centre h = record {
+  leads = λ u seen start. (
+    record {
+      seen_is = seen-fits v.taken.job u v.seen seen (subst (λ (j : Job). MatchOption (start_cost j) ⊤ (IsAtMost v.seen)) (same_job ∙ sym job) start);
+      centre = subst (λ (j : Job). is_part (finding_of j e v.seen) ≡ true → MatchOption (centre_cost j.instance e.square) ⊤ (IsAtMost v.seen)) (sym job) centre;
+    },
+    subst (λ (j : Job). Returns e v.seen (finding_of j e v.seen) v.taken pool) (sym job) h,
+    refl,
+  );
   job = h.job;
   beginning = h.beginning;
   leases = λ f. let a = ap (λ (l : Option Entry). total f (option_to_list l)) has in omega (arith, a, total-permutation f v.taken.leased (e ∷ pool.leased) h.leased);
@@ -422,10 +456,17 @@ pub gives_after_return : (about : Snapshot State) (slots id : ℕ) (m : Seat) (e
     → Allows (TableFits about) slots id m 1 (λ _. 0) (λ _. told_by_return (step slots 1 0 0 none) m 0)
 gives_after_return about slots id m e pool desk has lease holds job centre h =
     subst (λ (x : Seat). Allows (TableFits about) slots id x 1 (λ _. 0) (λ _. told_by_return (step slots 1 0 0 none) x 0)) (λ i. (m.0, sym holds i))
-    (gives_turn about slots id m.0 (view_after_return m.0 pool) pool (λ _. told_by_return (step slots 1 0 0 none) (m.0, (0, pool) ∷ []) 0) desk has
-    (record { role_is = desk; first_is = refl; seen_is = refl; best_is = refl; turn = refl })
-    (λ first is. return_gives first m.0 e pool is job lease centre h)
-    (λ found other same. ap (λ (p : State). (view_after_return m.0 p, [])) (held_pool pool other same)))
+    (gives_turn about slots id m.0 (λ ds. view_after_return m.0 ds pool) pool (Some (Return e m.0.seen)) (λ _. told_by_return (step slots 1 0 0 none) (m.0, (0, pool) ∷ []) 0) desk has
+    (λ ds. record { role_is = desk; seat_is = refl; first_is = refl; seen_is = refl; best_is = refl; turn = refl })
+    (λ ds. refl)
+    (λ first ds is. return_gives first m.0 ds e pool is job lease centre h)
+    (λ found ds u added other same. (
+      ap (λ (p : State). (view_after_return m.0 ds p, [])) (held_pool pool other same),
+      λ x has_x. subst (λ (y : Entry). AddsReturn y m.0 (view_after_return m.0 ds pool)) (one_lease e x m.0.lease lease has_x) (u, added),
+    )))
+  where
+    one_lease : (e x : Entry) (l : Option Entry) → l ≡ Some e → l ≡ Some x → e ≡ x
+    one_lease e x l is is' = let same : Some e ≡ Some x = sym is ∙ is' in cc
 
 -- what is given after a desk won the turn and its lease came back to the pool in the slot
 pub returned : (about : Snapshot State) (slots id : ℕ) (m won m' : Seat) (e : Entry) (seen : Option ℤ) (finding : Finding) (before after : State) → IsAtRest Desk m → Wins m won → m'.0 ≡ won.0 → won.1 ≡ (0, before) ∷ [] → m'.1 ≡ (0, after) ∷ []

@@ -19,12 +19,15 @@ use Rattle.shared_pool.specs.declared.returning.TryReturn.{TryReturn}
 use Rattle.shared_pool.specs.declared.returning.TryReturn.TheVariants as returning
 use Rattle.shared_pool.specs.Views.{view_after_loss, view_after_win, view_after_lease}
 use Rattle.shared_pool.specs.Views.{view_after_return}
+use Rattle.shared_pool.specs.Runs.{AddsAnswer, AddsReturn}
 
 -- The desk took the turn and found a pool, which gave this answer to one who asked for a lease, and
 -- gave the turn with the pool as the answer left it.
 pub record IsAnswered (answer : LeaseAnswer) (before after : View) : Type 0 where
   pub answers : LeaseAnswers answer after.taken after.given
-  pub view_is : after ≡ view_after_lease (view_after_win before after.taken) answer after.given
+  pub view_is : after
+      ≡ view_after_lease (view_after_win before after.taken) after.deeds answer after.given
+  pub adds : AddsAnswer answer before after
 
 -- each answer of `try_lease`
 abbrev pub TriesLease : TryLease → View → View → Type 0
@@ -44,7 +47,9 @@ pub record IsGivenBack (given : Given) (before after : View) : Type 0 where
       Returns lease before.seen (finding_of before.first.job lease before.seen) after.taken
       after.given
   pub given_is : given ≡ given_of after.taken (finding_of before.first.job lease before.seen)
-  pub view_is : after ≡ view_after_return (view_after_win before after.taken) after.given
+  pub view_is : after
+      ≡ view_after_return (view_after_win before after.taken) after.deeds after.given
+  pub adds : AddsReturn lease before after
 
 -- each answer of `try_return`
 abbrev pub TriesReturn : TryReturn → View → View → Type 0

@@ -1,4 +1,5 @@
 pub mod Views
+pub mod Runs
 pub mod TableFits
 pub mod Steps
 pub mod Calls

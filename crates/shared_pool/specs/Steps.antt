@@ -17,6 +17,7 @@ use Rattle.shared_pool.specs.declared.view.View.{View}
 use Rattle.shared_pool.specs.declared.view.Role.{Role}
 use Rattle.shared_pool.specs.Views.{view_after_look, view_after_offer, view_after_loss}
 use Rattle.shared_pool.specs.Views.{view_after_win, view_after_lease, view_after_return}
+use Rattle.shared_pool.specs.Runs.{AddsLook, AddsOffer, AddsAnswer, AddsReturn}
 
 -- u is the incumbent, or none, at a moment after the desk has seen what it has seen
 pub record IsIncumbentAfter (v : View) (u : Option ℤ) : Type 0 where
@@ -47,12 +48,21 @@ Telling = Step State → Seat → ℕ → Seat → Type 0
 
 abbrev pub told_by_look : Telling
 told_by_look step m found n =
-    IsIncumbentAfter m.0 (number_in found) × (n ≡ (view_after_look m.0 (number_in found), m.1))
+    IsIncumbentAfter m.0 (number_in found)
+    × (n ≡ (view_after_look m.0 n.0.deeds (number_in found), m.1))
+    × AddsLook (number_in found) m.0 n.0
+
+-- a site was offered with its upper cost, where the incumbent was u
+pub record IsOffered (u : Option ℤ) (site : Pt) (upper : ℤ) (old new : View) : Type 0 where
+  pub incumbent : IsIncumbentAfter old u
+  pub view_is : new ≡ view_after_offer old new.deeds u site upper
+  pub adds : AddsOffer u site upper old new
 
 abbrev pub told_by_offer : Pt → ℤ → Telling
 told_by_offer site upper step m found n =
     IsIncumbentAfter m.0 (number_in found)
-    × (n ≡ (view_after_offer m.0 (number_in found) site upper, m.1))
+    × (n ≡ (view_after_offer m.0 n.0.deeds (number_in found) site upper, m.1))
+    × AddsOffer (number_in found) site upper m.0 n.0
 
 -- the turn was free, and the seat holds the pool, of which the desk's lease is a leased entry, and
 -- in which the bounds of the squares that wait are right
@@ -68,8 +78,11 @@ told_by_take step m found n = (found ≡ 0 → Wins m n) × (found ≢ 0 → n �
 
 abbrev pub told_by_lease : LeaseAnswer → Telling
 told_by_lease answer step m found n =
-    (pool : State) → m.1 ≡ (0, pool) ∷ [] → n ≡ (view_after_lease m.0 answer pool, [])
+    (pool : State) → m.1 ≡ (0, pool) ∷ []
+    → (n ≡ (view_after_lease m.0 n.0.deeds answer pool, [])) × AddsAnswer answer m.0 n.0
 
 abbrev pub told_by_return : Telling
 told_by_return step m found n =
-    (pool : State) → m.1 ≡ (0, pool) ∷ [] → n ≡ (view_after_return m.0 pool, [])
+    (pool : State) → m.1 ≡ (0, pool) ∷ []
+    → (n ≡ (view_after_return m.0 n.0.deeds pool, []))
+    × ForSome m.0.lease (λ e. AddsReturn e m.0 n.0)

@@ -1,5 +1,5 @@
 -- The rule of the table: what holds between any two steps, of whatever desks.
-use Rattle.std.specs.Prelude.{◌≡◌, ℕ, ◌+◌, ◌≤◌, ℤ, Bool, true, false, List, [], ◌∷◌, ◌++◌, length}
+use Rattle.std.specs.Prelude.{◌≡◌, ◌≢◌, ℕ, ◌+◌, ◌<◌, ◌≤◌, ℤ, Bool, true, false, List, [], ◌∷◌, ◌++◌, length, All}
 use Rattle.std.specs.Prelude.{slice_index, count_by, option_to_list, IsPermutation, Option, Some}
 use Rattle.std.specs.Prelude.{None, MatchOption, ⊤}
 use Rattle.std.specs.declared.snapshot.Snapshot.{Snapshot}
@@ -14,11 +14,14 @@ use Rattle.pool_core.specs.Job.{IsOffer, start_cost, cost_in}
 use Rattle.pool_core.specs.State.{State, open_count}
 use Rattle.pool_core.specs.Machine.{Event, Run}
 use Rattle.pool_core.specs.Sound.{IsPoolOf}
+use Rattle.shared_pool.specs.declared.deed.Deed.{Deed}
+use Rattle.shared_pool.specs.declared.deed.Past.{Past}
 use Rattle.shared_pool.specs.declared.view.View.{View}
 use Rattle.shared_pool.specs.declared.view.Role.{Role}
 use Rattle.shared_pool.specs.declared.view.Role.TheVariants.{Root, Desk, Spent}
 use Rattle.pool_core.specs.Seats.{StopsWithin}
 use Rattle.shared_pool.specs.Views.{spent_view}
+use Rattle.shared_pool.specs.Runs.{search, shown_after, IsRun, GoesOn, HasPast}
 
 -- ---- the state shown
 -- some run of the machine leads from a pool, with its start as the incumbent, to a state with the
@@ -82,6 +85,15 @@ SeatFits first shown u j v Root = ViewFits first shown u v × RootFits first j v
 SeatFits first shown u j v Desk = ViewFits first shown u v
 SeatFits first shown u j v Spent = v ≡ spent_view
 
+-- the seat is j, and all that a desk or the root desk there knows of is gone on from
+abbrev pub KnowsDeeds : List Deed → ℕ → View → Type 0
+KnowsDeeds deeds j v = v.role ≢ Spent → (v.seat ≡ j) × GoesOn v.seat v.deeds deeds
+
+-- so is all that a desk knew that was taken in, whose seat is nobody's
+pub record PastFits (deeds : List Deed) (views : List View) (p : Past) : Type 0 where
+  pub goes_on : GoesOn p.seat p.deeds deeds
+  pub spent : HasView views p.seat spent_view
+
 -- ---- the rule
 -- word 0 is the incumbent
 abbrev pub incumbent_word : tables.State State View → ℕ
@@ -105,9 +117,12 @@ pub record TableFits (about : Snapshot State) (s : tables.State State View) : Ty
   pub turns : turn_word s ≤ 1
   pub in_slot : turn_word s ≡ 0 → get_elem? s.homes 0 ≡ some (some shown)
   -- 2. The table was made with a sound pool of its job, and a run leads from there to the state
-  -- shown: so that is sound too.
+  -- shown: so that is sound too. Each deed in the run is one of a desk that was seated out.
   pub opened : IsPoolOf about.value.job about.value
-  pub reached : IsReached about.value (incumbent_in s) shown
+  pub deeds : List Deed
+  pub run : IsRun about.value deeds
+  pub shown_is : shown_after about.value deeds ≡ search shown (incumbent_in s)
+  pub seated : All (λ (d : Deed). (0 < d.seat) × (d.seat < length s.views)) deeds
   pub job : shown.job ≡ about.value.job
   pub beginning : shown.beginning ≡ about.value.beginning
   -- 3. The leases of the desks are the leased entries, each once.
@@ -115,6 +130,8 @@ pub record TableFits (about : Snapshot State) (s : tables.State State View) : Ty
   -- 4, 5 and 7. What each desk and the root desk know is right.
   pub views : (j : ℕ) (v : View) → HasView s.views j v
       → SeatFits about.value shown (incumbent_in s) j v v.role
+  -- The run goes on from what each of them knows of, with no other deed of its own.
+  pub known : (j : ℕ) (v : View) → HasView s.views j v → KnowsDeeds deeds j v
   -- 5. A number of the incumbent is the cost of the best of one of them.
   pub offered : MatchOption (incumbent_in s) ⊤ (HasOffered s.views)
   -- 6. The root desk counts the desks that are out. Where there is a stop, no more parts are kept
@@ -124,6 +141,10 @@ pub record TableFits (about : Snapshot State) (s : tables.State State View) : Ty
   pub root_role : root.role ≡ Root
   pub out : count_by is_desk s.views ≡ root.out
   pub seats : root.out ≤ root.seats
+  pub each : length s.views ≡ root.seats + 1
+  pub gone : length root.pasts + root.out ≡ root.seats
+  pub pasts : All (PastFits deeds s.views) root.pasts
+  pub spent : (j : ℕ) (v : View) → HasView s.views j v → v.role ≡ Spent → HasPast root.pasts j
   pub kept : StopsWithin root.seats (shown.kept + length shown.leased) shown.stop
 
 -- The last state of a table: the slot has the pool, and word 0 the cost of the best, or none where

@@ -1,5 +1,6 @@
 -- What a seat at the table knows, and how each kind of step changes it.
-use Rattle.std.specs.Prelude.{◌+◌, ◌-◌, ℤ, pos, Bool, true, false, ◌||◌, [], Option, Some, None}
+use Rattle.std.specs.Prelude.{◌+◌, ◌-◌, ℤ, pos, Bool, true, false, ◌||◌, List, [], ◌∷◌, Option, Some}
+use Rattle.std.specs.Prelude.{None}
 use Rattle.siting_definitions.specs.declared.Kind.TheVariants.{Sum}
 use Rattle.siting_definitions.specs.Point.{Pt}
 use Rattle.siting_definitions.specs.Marks.{lesser}
@@ -9,6 +10,7 @@ use Rattle.pool_core.specs.declared.lease.LeaseAnswer.TheVariants.{Stopped, Done
 use Rattle.pool_core.specs.Job.{Job, start_cost}
 use Rattle.pool_core.specs.State.{State}
 use Rattle.pool_core.specs.Best.{better_of}
+use Rattle.shared_pool.specs.declared.deed.Deed.{Deed}
 use Rattle.shared_pool.specs.declared.view.View.{View}
 use Rattle.shared_pool.specs.declared.view.Role.TheVariants.{Root, Desk, Spent}
 
@@ -19,6 +21,9 @@ abbrev pub first_view : State → View
 first_view pool =
     record {
       role = Root;
+      seat = 0;
+      deeds = [];
+      pasts = [];
       first = pool;
       seen = start_cost pool.job;
       best = pool.job.start;
@@ -38,12 +43,15 @@ first_view pool =
 abbrev pub root_after_seating : View → View
 root_after_seating v = record v { out = v.out + 1; seats = v.seats + 1 }
 
--- the desk that a root desk seats out: it has seen what the root desk has, has no best and no
--- lease, and hasn't looked
+-- the desk that a root desk seats out, at the next seat: it has seen what the root desk has, has no
+-- best and no lease, and hasn't looked
 abbrev pub seated_view : View → View
 seated_view v =
     record {
       role = Desk;
+      seat = v.seats + 1;
+      deeds = [];
+      pasts = [];
       first = v.first;
       seen = v.seen;
       best = None;
@@ -63,7 +71,12 @@ seated_view v =
 -- has ended where one of them had.
 abbrev pub root_after_joining : View → View → View
 root_after_joining v w =
-    record v { best = better_of v.best w.best; ended = v.ended || w.ended; out = v.out - 1 }
+    record v {
+      pasts = record { seat = w.seat; deeds = w.deeds } ∷ v.pasts;
+      best = better_of v.best w.best;
+      ended = v.ended || w.ended;
+      out = v.out - 1;
+    }
 
 -- ---- a seat that was joined
 -- a job over nothing, for a view of which nothing is known
@@ -96,13 +109,14 @@ spent_view = record (first_view blank_pool) { role = Spent }
 
 -- ---- the steps of a desk
 -- a load of the incumbent, which found u
-abbrev pub view_after_look : View → Option ℤ → View
-view_after_look v u = record v { seen = u; loads = v.loads + 1; fresh = true }
+abbrev pub view_after_look : View → List Deed → Option ℤ → View
+view_after_look v deeds u = record v { deeds = deeds; seen = u; loads = v.loads + 1; fresh = true }
 
 -- an offer of a site with its upper cost, where the incumbent was u
-abbrev pub view_after_offer : View → Option ℤ → Pt → ℤ → View
-view_after_offer v u site upper =
+abbrev pub view_after_offer : View → List Deed → Option ℤ → Pt → ℤ → View
+view_after_offer v deeds u site upper =
     record v {
+      deeds = deeds;
       seen = lesser u (Some upper);
       best = better_of v.best (Some (site, upper));
       loads = v.loads + 1;
@@ -140,9 +154,10 @@ fresh_after (Leased e) fresh = false
 
 -- a give of the turn, with the pool as it is left, after the pool gave this answer to one who asked
 -- for a lease
-abbrev pub view_after_lease : View → LeaseAnswer → State → View
-view_after_lease v answer pool =
+abbrev pub view_after_lease : View → List Deed → LeaseAnswer → State → View
+view_after_lease v deeds answer pool =
     record v {
+      deeds = deeds;
       has_turn = false;
       given = pool;
       lease = lease_in answer;
@@ -151,5 +166,6 @@ view_after_lease v answer pool =
     }
 
 -- a give of the turn, with the pool as it is left, after the desk's lease came back to it
-abbrev pub view_after_return : View → State → View
-view_after_return v pool = record v { has_turn = false; given = pool; lease = None }
+abbrev pub view_after_return : View → List Deed → State → View
+view_after_return v deeds pool =
+    record v { deeds = deeds; has_turn = false; given = pool; lease = None }

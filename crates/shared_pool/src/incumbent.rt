@@ -3,8 +3,9 @@
 ghost use Rattle.std.specs.Prelude.{◌≡◌, ℤ, Option, Some};
 ghost use Rattle.siting_definitions.specs.Marks.{lesser};
 ghost use Rattle.pool_core.specs.Job.{IsOffer};
-ghost use Rattle.shared_pool.specs.Views.{view_after_look, view_after_offer};
-ghost use Rattle.shared_pool.specs.Steps.{IsIncumbentAfter};
+ghost use Rattle.shared_pool.specs.Views.{view_after_look};
+ghost use Rattle.shared_pool.specs.Runs.{AddsLook};
+ghost use Rattle.shared_pool.specs.Steps.{IsIncumbentAfter, IsOffered};
 ghost use Rattle.shared_pool.specs.Desks.{IsDeskOf, view};
 
 use crate::desk::Desk;
@@ -20,7 +21,8 @@ impl SharedPool {
     pub fn look(&self, desk: &mut Desk) -> Option<i64>
         requires { IsDeskOf self.now desk.old }
         ensures incumbent { IsIncumbentAfter (view desk.old) result }
-        ensures view { view desk.new ≡ view_after_look (view desk.old) result }
+        ensures view { view desk.new ≡ view_after_look (view desk.old) (view desk.new).deeds result }
+        ensures run { AddsLook result (view desk.old) (view desk.new) }
         ensures desk { IsDeskOf self.now desk.new }
     {
         let word = self.table.shared.load::<Look>(&mut desk.seat, 0);
@@ -34,9 +36,8 @@ impl SharedPool {
     pub fn offer(&self, desk: &mut Desk, site: Site, upper: i64) -> i64
         requires desk { IsDeskOf self.now desk.old }
         requires offer { IsOffer (view desk.old).first.job.instance site upper }
-        ensures incumbent { (u : Option ℤ) × IsIncumbentAfter (view desk.old) u
-            × (Some result ≡ lesser u (Some upper))
-            × (view desk.new ≡ view_after_offer (view desk.old) u site upper) }
+        ensures incumbent { (u : Option ℤ) × (Some result ≡ lesser u (Some upper))
+            × IsOffered u site upper (view desk.old) (view desk.new) }
         ensures desk { IsDeskOf self.now desk.new }
     {
         self.offer_as::<Brand>(desk, site, upper)
@@ -47,9 +48,8 @@ impl SharedPool {
         requires desk { IsDeskOf self.now desk.old }
         requires offer { IsOffer (view desk.old).first.job.instance site upper }
         requires told { (O.site ≡ site) × (O.upper ≡ upper) }
-        ensures incumbent { (u : Option ℤ) × IsIncumbentAfter (view desk.old) u
-            × (Some result ≡ lesser u (Some upper))
-            × (view desk.new ≡ view_after_offer (view desk.old) u site upper) }
+        ensures incumbent { (u : Option ℤ) × (Some result ≡ lesser u (Some upper))
+            × IsOffered u site upper (view desk.old) (view desk.new) }
         ensures desk { IsDeskOf self.now desk.new }
     {
         let word = to_word(upper);

@@ -7,6 +7,7 @@ ghost use Rattle.pool_core.specs.PoolAnswers.{LeaseAnswers};
 ghost use Rattle.pool_core.specs.Sound.{EntryFits};
 ghost use Rattle.shared_pool.specs.declared.view.Role.TheVariants as roles;
 ghost use Rattle.shared_pool.specs.Views.{view_after_lease, view_after_loss};
+ghost use Rattle.shared_pool.specs.Runs.{AddsAnswer};
 ghost use Rattle.shared_pool.specs.Steps.{IsAtRest, Wins};
 ghost use Rattle.shared_pool.specs.Calls.{TriesLease};
 ghost use Rattle.shared_pool.specs.Desks.{IsDeskOf, view};
@@ -84,7 +85,8 @@ impl SharedPool {
         requires pool { (pool : states.State) × (seat.old.me.1 ≡ (0, pool) ∷ [])
             × LeaseAnswers answer.now seat.old.me.0.taken pool }
         ensures given { (pool : states.State) → seat.old.me.1 ≡ (0, pool) ∷ []
-            → seat.new.me ≡ (view_after_lease seat.old.me.0 answer.now pool, []) }
+            → (seat.new.me ≡ (view_after_lease seat.old.me.0 seat.new.me.0.deeds answer.now pool, []))
+            × AddsAnswer answer.now seat.old.me.0 seat.new.me.0 }
         ensures same { (seat.new.table_id ≡ seat.old.table_id) × (seat.new.id ≡ seat.old.id) }
     {
         self.table.shared.store::<GiveAfterLease<A>>(seat, 1, 0);

@@ -6,6 +6,7 @@
 //! pool. A worker steps on the table with a desk.
 #![tactic(auto)]
 
+mod deed;
 mod desk;
 mod incumbent;
 mod leasing;
@@ -17,6 +18,7 @@ mod shared;
 mod tests;
 mod view;
 
+pub use deed::{Deed, Deeds, Past, Pasts};
 pub use desk::{Desk, RootDesk};
 pub use leasing::TryLease;
 pub use pool_core::Closed;

@@ -1,12 +1,13 @@
 //! The shared pool, from its beginning to its end.
 
-ghost use Rattle.std.specs.Prelude.{◌≡◌, pos, ◌-◌, ◌^◌, ◌<ℤ◌, true, [], IfOk, MatchOption, ⊤};
+ghost use Rattle.std.specs.Prelude.{◌≡◌, pos, ◌-◌, ◌^◌, ◌<ℤ◌, true, [], length, IfOk, MatchOption, ⊤};
 ghost use Rattle.std.specs.Option.{ForSome};
 ghost use Rattle.incumbent_word.specs.Word.{number_in};
 ghost use Rattle.pool_core.specs.Job.{IsOffer, cost_in};
 ghost use Rattle.pool_core.specs.Sound.{IsFinished, IsPoolOf};
 ghost use Rattle.pool_core.specs.Seats.{IsKeptBy};
 ghost use Rattle.shared_pool.specs.Views.{first_view};
+ghost use Rattle.shared_pool.specs.Runs.{IsEndOf};
 ghost use Rattle.shared_pool.specs.TableFits.{IsLast, IsReached};
 
 use crate::desk::RootDesk;
@@ -63,6 +64,9 @@ impl SharedPool {
         ensures best { result.best ≡ (root_view root).best }
         ensures last { IsLast (key self) result.pool result.best }
         ensures run { IsReached (first_pool self) (cost_in result.best) result.pool }
+        ensures end { IsEndOf (first_pool self) (root_view root).pasts result.pool
+            (cost_in result.best) }
+        ensures seats { length (root_view root).pasts ≡ (root_view root).seats }
         ensures offer { MatchOption result.best ⊤
             (λ b. IsOffer (first_pool self).job.instance b.0 b.1) }
         ensures job { result.pool.job ≡ (first_pool self).job }

@@ -1,5 +1,6 @@
 //! What a seat at the table knows.
 
+use crate::deed::{Deeds, Pasts};
 use pool_core::{Lease, Pool};
 use site_model::Site;
 
@@ -17,6 +18,12 @@ pub enum Role {
 pub struct View {
     /// Whose the seat is.
     pub role: Role,
+    /// Which seat it is: the root desk's is 0.
+    pub seat: u64,
+    /// The deeds of all desks up to its own last one, the newest first.
+    pub deeds: Deeds,
+    /// The desks that the root desk has taken in.
+    pub pasts: Pasts,
     /// The pool with which the table was made. It has the job and the beginning.
     pub first: Pool,
     /// The last number of the incumbent that it saw, in cost units, if it saw one. A root desk has

@@ -1,5 +1,5 @@
 -- What the desk of a worker has seen of the centre site of its square.
-use Rattle.std.proofs.Common.{◌≡◌, ℤ, false, Option, Some, sym, ap, ◌∙◌, subst}
+use Rattle.std.proofs.Common.{◌≡◌, ℤ, false, List, Option, Some, sym, ap, ◌∙◌, subst}
 use Rattle.std.specs.Prelude.{⊤, MatchOption, unwrap_or}
 use Rattle.siting_definitions.specs.Point.{Pt}
 use Rattle.siting_definitions.specs.Sites.{centre_cost}
@@ -10,6 +10,7 @@ use Rattle.bound_heap.specs.declared.entry.Entry.{Entry}
 use Rattle.pool_core.specs.declared.verdict.Bounds.{Bounds}
 use Rattle.pool_core.specs.Job.{Job}
 use Rattle.pool_core.specs.Sound.{EntryFits}
+use Rattle.shared_pool.specs.declared.deed.Deed.{Deed}
 use Rattle.shared_pool.specs.declared.view.View.{View}
 use Rattle.shared_pool.specs.Views.{view_after_offer}
 use Rattle.shared_pool.proofs.Incumbents.{lesser-offer}
@@ -18,8 +19,8 @@ use Rattle.site_workers.specs.Team.{HasBounds, HasSeenCentre}
 use Rattle.site_workers.proofs.CentreLemmas.{spared}
 
 -- an offer of the centre site sees at most its cost
-pub seen-after-offer : (v w : View) (u : Option ℤ) (site : Pt) (upper : ℤ) (e : Entry) → v.lease ≡ Some e → centre_cost v.first.job.instance e.square ≡ Some upper → w ≡ view_after_offer v u site upper → HasSeenCentre w
-seen-after-offer v w u site upper e lease cost is =
+pub seen-after-offer : (v w : View) (deeds : List Deed) (u : Option ℤ) (site : Pt) (upper : ℤ) (e : Entry) → v.lease ≡ Some e → centre_cost v.first.job.instance e.square ≡ Some upper → w ≡ view_after_offer v deeds u site upper → HasSeenCentre w
+seen-after-offer v w deeds u site upper e lease cost is =
     subst HasSeenCentre (sym is)
     (λ other has.
     let same : centre_cost v.first.job.instance other.square ≡ Some upper

@@ -1,16 +1,19 @@
 -- What the desk of a worker of a team knows between its steps.
-use Rattle.std.specs.Prelude.{◌≡◌, true, IsSome, None, MatchOption, ⊤}
+use Rattle.std.specs.Prelude.{◌≡◌, ℕ, ℤ, true, List, length, IsSome, Option, None, MatchOption, ⊤}
 use Rattle.std.specs.Option.{ForSome}
 use Rattle.siting_definitions.specs.Sites.{centre_cost}
 use Rattle.siting_definitions.specs.Marks.{IsAtMost}
 use Rattle.pool_core.specs.declared.verdict.Bounds.{Bounds}
 use Rattle.pool_core.specs.declared.verdict.Verdict.{Verdict}
 use Rattle.pool_core.specs.Job.{Job}
+use Rattle.pool_core.specs.State.{State}
 use Rattle.pool_core.specs.Verdict.{bounds_of}
 use Rattle.pool_core.specs.Sound.{EntryFits}
+use Rattle.shared_pool.specs.declared.deed.Past.{Past}
 use Rattle.shared_pool.specs.declared.desk.Desk.{Desk}
 use Rattle.shared_pool.specs.declared.shared.SharedPool.{SharedPool}
 use Rattle.shared_pool.specs.declared.view.View.{View}
+use Rattle.shared_pool.specs.Runs.{AddsLook, IsEndOf}
 use Rattle.shared_pool.specs.Calls.{AreBoundsOf, IsCentreSeen, IsFound}
 use Rattle.shared_pool.specs.Desks.{IsDeskOf, view}
 
@@ -45,6 +48,11 @@ pub record HasOffered (shared : SharedPool) (d : Desk) : Type 0 where
   pub lease : HasLease shared d
   pub centre : HasSeenCentre (view d)
 
+-- its last deed was a look, which found what it has seen; what it had seen before was at most the
+-- upper cost of the centre site of its square, if that has one
+abbrev pub HasLooked : View → Type 0
+HasLooked w = (v : View) × HasSeenCentre v × (v.lease ≡ w.lease) × AddsLook w.seen v w
+
 -- it has a lease, whose square has these bounds, and this is the verdict on it for what the desk has
 -- seen since it got it
 pub record HasVerdict (shared : SharedPool) (d : Desk) (bounds : Bounds) (verdict : Verdict) : Type 0 where
@@ -54,3 +62,8 @@ pub record HasVerdict (shared : SharedPool) (d : Desk) (bounds : Bounds) (verdic
   pub finding : IsFound (view d) verdict.seen verdict.finding
   pub bounds_are : AreBoundsOf (view d) bounds
   pub centre : IsCentreSeen (view d) verdict.seen verdict.finding
+
+-- so many desks were at the table, and what they did leads from the pool to this pool and incumbent
+abbrev pub IsWorkOf : ℕ → State → State → Option ℤ → Type 0
+IsWorkOf workers first pool u =
+    (pasts : List Past) × (length pasts ≡ workers) × IsEndOf first pasts pool u

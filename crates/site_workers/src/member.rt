@@ -2,8 +2,9 @@
 
 ghost use Rattle.std.specs.Prelude.{◌≡◌, true, IsSome};
 ghost use Rattle.shared_pool.specs.Desks.{first_pool, view};
-ghost use Rattle.site_workers.specs.Team.{HasBounds, HasEnded, HasLease, HasOffered};
-ghost use Rattle.site_workers.specs.Team.{HasVerdict, IsFree};
+ghost use Rattle.shared_pool.specs.Runs.{AddsLook};
+ghost use Rattle.site_workers.specs.Team.{HasBounds, HasEnded, HasLease, HasLooked};
+ghost use Rattle.site_workers.specs.Team.{HasOffered, HasVerdict, IsFree};
 
 use crate::centre::may_be_cheaper;
 use crate::gate::{Gate, Moment};
@@ -69,7 +70,8 @@ fn judge_lease(shared: &SharedPool, job: &Job, desk: &mut Desk, bounds: Bounds) 
     requires job { (first_pool shared.now).job ≡ job.now }
     requires desk { HasLease shared.now desk.old }
     requires bounds { HasBounds job.now (view desk.old) bounds }
-    ensures { HasVerdict shared.now desk.new bounds result }
+    ensures verdict { HasVerdict shared.now desk.new bounds result }
+    ensures looked { HasLooked (view desk.new) }
 {
     offer_centre(shared, job, desk, bounds);
     look(shared, desk);
@@ -119,6 +121,7 @@ fn offer_centre(shared: &SharedPool, job: &Job, desk: &mut Desk, bounds: Bounds)
 fn look(shared: &SharedPool, desk: &mut Desk)
     requires { HasOffered shared.now desk.old }
     ensures offered { HasOffered shared.now desk.new }
+    ensures looked { AddsLook (view desk.new).seen (view desk.old) (view desk.new) }
     ensures fresh { (view desk.new).fresh ≡ true }
     ensures lease { (view desk.new).lease ≡ (view desk.old).lease }
 {

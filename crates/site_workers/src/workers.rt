@@ -9,7 +9,7 @@ ghost use Rattle.pool_core.specs.Sound.{IsFinished, IsPoolOf};
 ghost use Rattle.pool_core.specs.Seats.{IsKeptBy};
 ghost use Rattle.shared_pool.specs.TableFits.{IsReached};
 ghost use Rattle.shared_pool.specs.Desks.{IsRootOf, first_pool, root_view};
-ghost use Rattle.site_workers.specs.Team.{HasEnded, IsFree};
+ghost use Rattle.site_workers.specs.Team.{HasEnded, IsFree, IsWorkOf};
 
 use crate::gate::Gate;
 use crate::member::work;
@@ -52,6 +52,8 @@ pub fn team<R: Threads + Wait + Sync, G: Gate + Sync>(
     requires most { workers ≤ 64 }
     ensures finished { IfOk result (λ closed. IsFinished job.now closed.pool closed.best) }
     ensures run { IfOk result (λ closed. IsReached pool (jobs.cost_in closed.best) closed.pool) }
+    ensures work { IfOk result (λ closed.
+        IsWorkOf workers pool closed.pool (jobs.cost_in closed.best)) }
     ensures beginning { IfOk result (λ closed. closed.pool.beginning ≡ pool.beginning) }
     ensures improved { IfOk result (λ closed.
         MatchOption (jobs.start_cost job.now) ⊤ (IsAtMost (jobs.cost_in closed.best))) }

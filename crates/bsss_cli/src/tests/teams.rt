@@ -111,7 +111,8 @@ fn all_workers_at_once(rt: HostRuntime) -> Result<(), Fail> {
     Ok(())
 }
 
-/// A gate that counts how often each moment was passed.
+/// A gate that counts how often each moment was passed. It holds who got a lease until others have
+/// found nothing waiting, and the turn taken.
 #[derive(Drop)]
 struct Counts {
     leased: AtomicU64,
@@ -129,37 +130,33 @@ impl Gate for Counts {
             Moment::Busy => &self.busy,
         };
         count.fetch_add(1, Ordering::SeqCst);
+        if moment != Moment::Leased {
+            return;
+        }
+        for _ in 0..LOOKS {
+            if self.idle.load(Ordering::SeqCst) > 0 && self.busy.load(Ordering::SeqCst) > 0 {
+                return;
+            }
+        }
     }
 }
 
-/// Three towns whose search is not done after 1000 leases.
-const THREE_TOWNS: &str = "siting 1\nkind sum\npoint 0 0 3\npoint 900 7 4\npoint 311 800 5\n\
-    permit 0 0 900 0 900 900 0 900\nend\n";
-
-/// How often a team is run for its workers to meet at the turn.
-const RUNS: u32 = 100;
-
 #[test]
 fn each_moment_is_passed(rt: HostRuntime) -> Result<(), Fail> {
-    let line = "solve gap=0 budget=1000 workers=8";
-    for _ in 0..RUNS {
-        let gate = Counts {
-            leased: AtomicU64::new(0),
-            judged: AtomicU64::new(0),
-            idle: AtomicU64::new(0),
-            busy: AtomicU64::new(0),
-        };
-        let (status, sink) = run_gated(&rt, rt.alloc(), line, THREE_TOWNS, &gate)?;
-        assert_eq!(rt; status, Status::Budget);
-        let leases = gate.leased.load(Ordering::SeqCst);
-        assert_eq!(rt; gate.judged.load(Ordering::SeqCst), leases);
-        let wanted = format!(in rt.alloc(); "leases {leases}")?;
-        let answer = str::from_utf8(sink.bytes())?;
-        assert!(rt; answer.split('\n').any(|line| line == wanted.as_str()));
-        if gate.idle.load(Ordering::SeqCst) > 0 && gate.busy.load(Ordering::SeqCst) > 0 {
-            return Ok(());
-        }
-    }
-    assert!(rt; false, "no worker found the turn taken");
+    let gate = Counts {
+        leased: AtomicU64::new(0),
+        judged: AtomicU64::new(0),
+        idle: AtomicU64::new(0),
+        busy: AtomicU64::new(0),
+    };
+    let (status, sink) = run_gated(&rt, rt.alloc(), "solve workers=4", LONE_TOWN, &gate)?;
+    assert_eq!(rt; status, Status::Solved);
+    let leases = gate.leased.load(Ordering::SeqCst);
+    assert_eq!(rt; gate.judged.load(Ordering::SeqCst), leases);
+    let wanted = format!(in rt.alloc(); "leases {leases}")?;
+    let answer = str::from_utf8(sink.bytes())?;
+    assert!(rt; answer.split('\n').any(|line| line == wanted.as_str()));
+    assert!(rt; gate.idle.load(Ordering::SeqCst) > 0);
+    assert!(rt; gate.busy.load(Ordering::SeqCst) > 0);
     Ok(())
 }

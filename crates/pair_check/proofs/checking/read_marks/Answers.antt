@@ -37,7 +37,7 @@ take-requires-clause-small g c κs within =
 
 pub returns-in-Some-clause-reads : goal.returns-in-Some-clause-reads
 returns-in-Some-clause-reads g c =
-    halfway_fault _ _ _ _ _ _ _ _ _ c.loop.invariant.read (NodeItem c.in-Ok-Node.mark) (rw c.in-Ok-Node.field-0-is at c.in-Ok-Node.ensures.read) _ c.line-line.ensures c.in-Some.fault c.in-Some.ensures.says
+    halfway_fault _ _ _ _ _ _ _ _ _ c.loop.invariant.read (omega (arith, c.loop.invariant.short, c.loop.batch.nodes.ok.0)) (NodeItem c.in-Ok-Node.mark) (rw c.in-Ok-Node.field-0-is at c.in-Ok-Node.ensures.read) _ c.line-line.ensures c.in-Some.fault c.in-Some.ensures.says
 
 pub returns-in-Ok-clause-reads : goal.returns-in-Ok-clause-reads
 returns-in-Ok-clause-reads g c =
@@ -45,11 +45,11 @@ returns-in-Ok-clause-reads g c =
 
 pub returns-in-Err-close-clause-reads : goal.returns-in-Err-close-clause-reads
 returns-in-Err-close-clause-reads g c =
-    halfway_fault _ _ _ _ _ _ _ _ _ c.loop.invariant.read EndItem (rw c.in-Ok-End.field-0-is at c.in-Ok-End.ensures.read) _ c.line-in-Ok-End.ensures c.in-Err-close.fault c.in-Err-close.ensures
+    halfway_fault _ _ _ _ _ _ _ _ _ c.loop.invariant.read (omega (arith, c.loop.invariant.short, c.loop.batch.nodes.ok.0)) EndItem (rw c.in-Ok-End.field-0-is at c.in-Ok-End.ensures.read) _ c.line-in-Ok-End.ensures c.in-Err-close.fault c.in-Err-close.ensures
 
 pub returns-in-Err-clause-reads : goal.returns-in-Err-clause-reads
 returns-in-Err-clause-reads g c =
-    halfway_stops _ _ _ _ _ _ _ _ _ c.loop.invariant.read c.in-Err.error c.in-Err.ensures.read c.settle-fault.result c.settle-fault.ensures.fault c.fault_or.result c.fault_or.ensures
+    halfway_stops _ _ _ _ _ _ _ _ _ c.loop.invariant.read (omega (arith, c.loop.invariant.short, c.loop.batch.nodes.ok.0)) c.in-Err.error c.in-Err.ensures.read c.settle-fault.result c.settle-fault.ensures.fault c.fault_or.result c.fault_or.ensures
 
 -- each turn read a line
 pub returns-clause-reads : goal.returns-clause-reads
@@ -65,5 +65,5 @@ loop-preserved g c =
       line = omega (arith, line, c.line-line.ensures);
       fits = omega (arith, line, c.line-line.type_inv);
       few = more-within _ _ _ _ (c.in_default.ensures.tally refl) c.loop.invariant.few;
-      read = halfway_more _ _ _ _ _ _ _ _ _ c.loop.invariant.read c.in-Ok-Node.mark (rw c.in-Ok-Node.field-0-is at c.in-Ok-Node.ensures.read) _ c.line-line.ensures k.above k.nodes.items k.walk k.tally c.in_default.ensures.says;
+      read = halfway_more _ _ _ _ _ _ _ _ _ c.loop.invariant.read c.in-Ok-Node.mark (rw c.in-Ok-Node.field-0-is at c.in-Ok-Node.ensures.read) _ c.line-line.ensures k.above k.nodes.items k.walk k.tally c.in_default.ensures.says (c.in_default.ensures.grows refl);
     }

@@ -24,7 +24,7 @@ returns-in-Some-centre_site c =
     ∙ ap (λ (j : Job). centre_cost j.instance e.square) (c.requires.job ∙ sym c.job.view_is)
     ∙ ap (λ (s : Square). centre_cost c.job.inside.instance s) (sym c.square-square.ensures)
     ∙ sym c.centre_site.ensures.cost ∙ ap (option_map (λ (b : Pt × ℤ). b.1)) c.in-Some-centre_site.is in
-    let is : view c.offer.new.desk ≡ view_after_offer v c.offer.ensures.incumbent.0 c.in-Some-centre_site.site upper = search rules in
+    let is : view c.offer.new.desk ≡ view_after_offer v (view c.offer.new.desk).deeds c.offer.ensures.incumbent.0 c.in-Some-centre_site.site upper = let told = c.offer.ensures.incumbent.2.view_is in search rules in
     record {
       offered = record {
         lease = record {
@@ -32,7 +32,7 @@ returns-in-Some-centre_site c =
           lease = subst (λ (w : View). IsSome w.lease) (sym is) c.requires.desk.lease;
           fits = subst (λ (w : View). ForSome w.lease (EntryFits w.first.job.instance)) (sym is) c.requires.desk.fits;
         };
-        centre = seen-after-offer v (view c.offer.new.desk) c.offer.ensures.incumbent.0 c.in-Some-centre_site.site upper e lease cost is;
+        centre = seen-after-offer v (view c.offer.new.desk) (view c.offer.new.desk).deeds c.offer.ensures.incumbent.0 c.in-Some-centre_site.site upper e lease cost is;
       };
       lease = ap (λ (w : View). w.lease) is;
     }

@@ -1,4 +1,5 @@
-use Rattle.std.proofs.Common.{◌≡◌, ◌+◌, ◌∙◌, length, sym, subst, arith}
+use Rattle.std.proofs.Common.{◌≡◌, ◌+◌, ◌∙◌, ◌∷◌, [], length, inl, inr, sym, ap, subst, arith}
+use Rattle.std.proofs.lemmas.List.{length-append}
 use Rattle.answer_model.specs.Tally.{AreSmall}
 use Rattle.certificate.specs.declared.reader.Item.TheVariants.{Node as NodeItem}
 use Rattle.pair_check.specs.Batches.{batch_says_with}
@@ -33,3 +34,10 @@ returns-else-add-clause-tally g c =
     λ none.
     tally-empty c.settle-else-add.new.self _ (c.settle-else-add.ensures.empty none) (c.settle-else-add.ensures.tally none)
     ∙ tally-added c.args.self.now c.add.new.self c.in-Some.square c.args.mark c.add.ensures.nodes c.add.ensures.tally
+
+pub returns-then-add-clause-grows : goal.returns-then-add-clause-grows
+returns-then-add-clause-grows g c =
+    λ _. inl (ap length c.add.ensures.nodes ∙ length-append c.args.self.now.nodes.items (record { square = c.in-Some.square; mark = c.args.mark } ∷ []))
+
+pub returns-else-add-clause-grows : goal.returns-else-add-clause-grows
+returns-else-add-clause-grows g c = λ none. inr (c.settle-else-add.ensures.empty none)

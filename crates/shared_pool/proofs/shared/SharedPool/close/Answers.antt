@@ -3,6 +3,7 @@ use Rattle.std.specs.Prelude.{⊤, MatchOption}
 use Rattle.siting_definitions.specs.Point.{Pt}
 use Rattle.pool_core.specs.Job.{IsOffer, cost_in}
 use Rattle.pool_core.specs.Sound.{IsFinished}
+use Rattle.shared_pool.specs.Runs.{IsEndOf}
 use Rattle.shared_pool.specs.TableFits.{IsLast, IsReached}
 use Rattle.shared_pool.specs.Desks.{key, first_pool, root_view}
 use Rattle.shared_pool.proofs.FirstAndLast.{Ends, ends}
@@ -19,6 +20,12 @@ returns-clause-last c = subst (IsLast (key c.args.self) c.take-pool.result) (sym
 
 pub returns-clause-run : goal.returns-clause-run
 returns-clause-run c = subst (λ (b : Option (Pt × ℤ)). IsReached (first_pool c.args.self) (cost_in b) c.take-pool.result) (sym c.args.root.shown_best) (ended c).reached
+
+pub returns-clause-end : goal.returns-clause-end
+returns-clause-end c = subst (λ (b : Option (Pt × ℤ)). IsEndOf (first_pool c.args.self) (root_view c.args.root).pasts c.take-pool.result (cost_in b)) (sym c.args.root.shown_best) (ended c).end_is
+
+pub returns-clause-seats : goal.returns-clause-seats
+returns-clause-seats c = (ended c).seats
 
 pub returns-clause-offer : goal.returns-clause-offer
 returns-clause-offer c = subst (λ (b : Option (Pt × ℤ)). MatchOption b ⊤ (λ b. IsOffer (first_pool c.args.self).job.instance b.0 b.1)) (sym c.args.root.shown_best) (ended c).offer

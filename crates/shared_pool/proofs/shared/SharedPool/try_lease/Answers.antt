@@ -9,4 +9,4 @@ returns-in-Leased-clause-fits c x has =
     let r = c.lease_from-answer.ensures.answer in
     answer-fits m.0.first.job.instance c.lease_from-answer.result r.0 r.1 r.4
     (won-waiting m c.take_turn.new.seat.me r.0 (c.take_turn.ensures.won c.if-not-take_turn.false) r.2) x
-    (sym (ap (λ (n : Seat). n.0.lease) (c.give_after_lease.ensures.given r.1 r.3)) ∙ has)
+    (sym (ap (λ (n : Seat). n.0.lease) (c.give_after_lease.ensures.given r.1 r.3).0) ∙ has)
