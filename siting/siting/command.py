@@ -1,17 +1,22 @@
 """From the words of a command to its status."""
 
 import argparse
+import io
 import os
 import shutil
 import sys
 import time
 from collections.abc import Callable, Sequence
+from contextlib import redirect_stderr
 from fractions import Fraction
 from math import isfinite
 from pathlib import Path
+from typing import Any
 
-from .audit import Audit, Unsound
-from .compare import compare
+from .audit import Audit
+from .audit_tiles import Unsound
+from .batch import Batch
+from .compare import Comparison, table, write_csv, write_page
 from .make import Wanted, make
 from .program import Program
 from .questions import QUESTIONS, Refused, length, number
@@ -60,6 +65,14 @@ def parser() -> argparse.ArgumentParser:
     command.set_defaults(run=compare_sites)
     command.add_argument("folder", type=Path, metavar="FOLDER", help="that a question wrote")
     command.add_argument("--site", required=True, nargs="+", type=place, metavar="X,Y", help="in the region's plane")
+    command.add_argument("--csv", type=Path, metavar="FILE", help="writes the table there as well")
+    command.add_argument("--page", type=Path, metavar="FILE", help="writes the answer's page there, with these sites")
+    command = commands.add_parser("batch", help="asks a table of questions, and writes a table of answers")
+    command.set_defaults(run=ask_all)
+    command.add_argument("table", type=Path, metavar="TABLE", help="a CSV with a question a row")
+    command.add_argument("--out", required=True, type=Path, metavar="FOLDER", help="of the answers and their table")
+    command.add_argument("--jobs", type=int, default=1, metavar="N", help="questions asked at a time; 1")
+    command.add_argument("--bsss", metavar="PATH", help="the program; $BSSS, or the repository's")
     command = commands.add_parser("make", help="makes layers for trials, from a seed")
     command.set_defaults(run=make_layers)
     for name, default in (
@@ -147,19 +160,50 @@ def solve(options: argparse.Namespace) -> int:
 
 
 def audit(options: argparse.Namespace) -> int:
-    """Tests a folder by what is trusted alone."""
-    try:
-        Audit(options.folder, Program(options.bsss)).run()
-    except ValueError as fault:
-        raise Unsound(str(fault)) from fault
+    """Tests a folder by what is trusted alone, and says what holds of it and what doesn't."""
+    failed = 0
+    for says, fault in Audit(options.folder, Program(options.bsss)).sentences():
+        print(f"holds: {says}" if fault is None else f"fails: {says}: {fault}", flush=True)
+        failed += fault is not None
+    if failed:
+        raise Unsound(f"{failed} of its sentences fail")
     print("holds")
     return 0
 
 
+def ask_all(options: argparse.Namespace) -> int:
+    """Asks the questions of a table."""
+    if options.jobs < 1:
+        raise Refused("--jobs is at least 1")
+    work = Batch(options.table, options.out, options.jobs, options.bsss, figures_of)
+    work.run(teller())
+    if work.stopped:
+        return complain(f"interrupted; {options.out} has what was answered", INTERRUPTED)
+    return work.status()
+
+
+def figures_of(words: list[str]) -> dict[str, Any]:
+    """What the figures of a folder say of the question that these words ask; refuses words that ask none."""
+    said = io.StringIO()
+    try:
+        with redirect_stderr(said):
+            options = parser().parse_args(words)
+    except SystemExit:
+        raise Refused(said.getvalue().strip().splitlines()[-1].partition("error: ")[2]) from None
+    if options.run is not solve:
+        raise Refused(f"{words[0]} is no question")
+    return {"asked": asked(options).figures(), "within_percent": str(options.within)}
+
+
 def compare_sites(options: argparse.Namespace) -> int:
     """Says what other sites cost."""
-    for line in compare(options.folder, options.site):
+    rows = Comparison(options.folder).rows(options.site)
+    for line in table(rows):
         print(line)
+    if options.csv is not None:
+        write_csv(rows, options.csv)
+    if options.page is not None:
+        write_page(options.folder, rows, options.page)
     return 0
 
 

@@ -21,6 +21,15 @@ GRID = "EPSG:25832"
 MIDDLE = (550_000.0, 5_800_000.0)  # of the district, in that grid
 RADIUS = 30_000.0  # of the district, metres
 PACKAGE = "layers.gpkg"
+BAY = (0.55, 0.28)  # how far a bay goes in, of the district's radius, and half how wide it is, in radians
+STEMS = (
+    "Ahorn Birken Buchen Dorn Eichen Erlen Eschen Falken Fichten Ginster Hasel Heide Hirsch Holz Ilmen Kiefern Klee "
+    "Kranich Lärchen Linden Moos Neu Nuss Otter Pappel Reiher Rohr Rosen Schilf Schlehen Stein Tannen Ulmen Wald "
+    "Weiden Wiesen Wolfs Ziegel"
+).split()
+ENDINGS = (
+    "au bach berg born brunn bruck dorf feld furt hain hausen heim hof holm ried see stedt tal wald werder".split()
+)
 
 
 @dataclass(frozen=True)
@@ -55,7 +64,7 @@ def make(wanted: Wanted, folder: Path) -> None:
 
 def areas(random: Random, wanted: Wanted) -> dict[str, list[Area]]:
     """The district, with an island in each of its lakes, and the forests, three of which cross its border."""
-    shore = outline(random, *MIDDLE, RADIUS, max(8, wanted.vertices // 2))
+    shore = outline(random, *MIDDLE, RADIUS, max(8, wanted.vertices // 2), bay=random.uniform(0, 2 * pi))
     places = spots(random, shore, wanted.lakes + wanted.forests)
     lakes, forests = places[: wanted.lakes], places[wanted.lakes :]
     each = max(8, wanted.vertices // (2 + wanted.lakes + wanted.forests))
@@ -67,13 +76,17 @@ def areas(random: Random, wanted: Wanted) -> dict[str, list[Area]]:
     return {"district": district, "forests": [[wood] for wood in woods]}
 
 
-def outline(random: Random, x: float, y: float, radius: float, count: int) -> Ring:
-    """A ring with bays round a middle, counter-clockwise: its distance from the middle goes in waves."""
+def outline(random: Random, x: float, y: float, radius: float, count: int, bay: float | None = None) -> Ring:
+    """A ring round a middle, counter-clockwise: its distance from the middle goes in waves, and less in the direction
+    of a bay, in radians."""
     waves = [(k, random.uniform(0, 2 * pi), random.uniform(0.02, 0.3) / k) for k in (2, 3, 5, 9, 17)]
     ring = []
     for step in range(count):
         turn = 2 * pi * step / count
         way = radius * (0.65 + sum(size * sin(k * turn + at) for k, at, size in waves))
+        if bay is not None:
+            off = abs((turn - bay + pi) % (2 * pi) - pi) / BAY[1]
+            way *= 1 - BAY[0] * max(0.0, 1 - off**2) ** 2
         ring.append((round(x + way * cos(turn), 2), round(y + way * sin(turn), 2)))
     return ring
 
@@ -112,13 +125,20 @@ def towns(random: Random, count: int) -> list[Town]:
     """Towns about some middles, few of them with many people."""
     places = [tuple(value + random.uniform(-1.2, 1.2) * RADIUS for value in MIDDLE) for _ in range(12)]
     widths = [random.uniform(0.03, 0.4) * RADIUS for _ in places]
-    found = []
-    for number in range(1, count + 1):
+    found, names = [], town_names(random, count)
+    for number in range(count):
         at = random.randrange(len(places))
         x, y = (round(random.gauss(value, widths[at]), 2) for value in places[at])
         people = min(int(random.paretovariate(1.1) * 100), 1_000_000)
-        found.append((f"town {number}", people, x, y))
+        found.append((names[number], people, x, y))
     return found
+
+
+def town_names(random: Random, count: int) -> list[str]:
+    """Names of towns, no two alike: those of a stem and an ending first, then with a number behind them."""
+    names = [stem + ending for stem, ending in product(STEMS, ENDINGS)]
+    random.shuffle(names)
+    return [names[n % len(names)] + (f" {n // len(names) + 1}" if n >= len(names) else "") for n in range(count)]
 
 
 # files
@@ -126,7 +146,7 @@ def towns(random: Random, count: int) -> list[Town]:
 
 def write_towns(path: Path, rows: list[Town]) -> None:
     """Writes towns as a table."""
-    with open(path, "w", newline="") as file:
+    with open(path, "w", newline="", encoding="utf-8") as file:
         csv.writer(file).writerows([("name", "people", "x", "y"), *rows])
 
 

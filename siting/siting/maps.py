@@ -1,195 +1,224 @@
-"""Maps of an answer, and a page with them, for readers: what is near the best, and the squares that the bound comes from.
-Nothing rests on them."""
+"""Two maps of an answer, each as PNG and SVG: what is near the best, and the squares that the bound comes from.
 
-from base64 import b64encode
-from collections.abc import Iterator, Sequence
-from fractions import Fraction
-from html import escape
-from math import floor, log10
+Near sets and squares are proved; the drawing of them is to half a point.
+"""
+
+import textwrap
+from collections.abc import Sequence
+from dataclasses import dataclass
 from pathlib import Path
 
+import matplotlib
 import numpy as np
 from matplotlib.axes import Axes
-from matplotlib.collections import PolyCollection
+from matplotlib.collections import LineCollection, PolyCollection
 from matplotlib.figure import Figure
 from matplotlib.lines import Line2D
 from matplotlib.patches import Patch, PathPatch
 from matplotlib.path import Path as Outline
+from matplotlib.patheffects import withStroke
 
-from .exact.answers import Square
-from .exact.bound import within
-from .tiles import Run, Search
+from .drawing import (
+    View,
+    equal_costs,
+    heaviest,
+    labels,
+    length_words,
+    outside,
+    round_length,
+    thinned,
+    town_words,
+    view_of,
+)
+from .near import NearSet
+from .palette import BOUNDS, NEAR, SITE
+from .squares import Bounded
+from .tiles import Search
 
-NEAR = {20: "0.90", 10: "0.80", 5: "0.66", 2: "0.48", 1: "0.28"}  # per cent more than the best, and a grey
-HIGHER = [1, 2, 5, 10, 20, 50, 100, 200, 500]  # per cent, of contours
-TERMS = 30_000_000  # weights times distances that are computed for the contours
-MOST = 20  # per cent above the bound, where squares are white
-LARGEST = 150  # town, points squared
+WIDTH, SIDE, TOP, BOTTOM = 7.5, 0.15, 0.62, 1.25  # inches: a page's width, and margins for title and legend
+DPI = 150
+DETAIL = 0.25 / 72  # inches that can't be seen; the border's line is wider
+LARGEST, COVERED = 12, 0.05  # of a town, points across; of the map by towns
+BEYOND = "0.96"  # grey, outside the region
+AS_PICTURE = 1_500  # squares, above which the SVG has them as a picture
+STYLE = {"svg.fonttype": "none", "svg.hashsalt": "siting", "font.size": 8, "hatch.linewidth": 0.4}
+NEAR_NOTE = "Each shade, with the darker ones in it, holds every permitted place that costs so little: proved. It may hold others."
+SQUARES_NOTE = (
+    "No permitted place in a square costs less than its shade says: proved. A large dark square has a weak bound."
+)
+NO_DATE = {"png": {"Software": None}, "svg": {"Date": None, "Creator": None}}
 
-PAGE = """<!DOCTYPE html>
-<html lang="en">
-<meta charset="utf-8">
-<title>{headline}</title>
-<style>body {{ max-width: 75em; margin: auto; font-family: sans-serif }} img {{ max-width: 100% }}</style>
-<h1>{headline}</h1>
-{images}<pre>{text}</pre>
-</html>
-"""
-
-Places = Sequence[tuple[float, float]]
-
-
-def write_page(search: Search, headline: str, text: str, folder: Path) -> None:
-    """Writes map.png and squares.png, and report.html, which holds both and the report's text."""
-    images = ""
-    if search.site is not None:
-        draw_near(search, headline, folder / "map.png")
-        draw_squares(search, "Where the bound comes from", folder / "squares.png")
-        for name in ("map.png", "squares.png"):
-            inline = b64encode((folder / name).read_bytes()).decode()
-            images += f'<p><img alt="{name}" src="data:image/png;base64,{inline}"></p>\n'
-    (folder / "report.html").write_text(PAGE.format(headline=escape(headline), text=escape(text), images=images))
-
-
-def draw_near(search: Search, title: str, path: Path) -> None:
-    """The nested near sets, which are proved; contours of the cost, which are not; the towns and the site."""
-    figure, axes = sheet(search, title)
-    region = outline(axes, search.problem.region, facecolor="white", edgecolor="black", linewidth=1.2, zorder=1)
-    entries: list[Patch | Line2D] = []
-    for percent, grey in NEAR.items():
-        squares = [square for run in search.runs for square in search.near(run, Fraction(percent))]
-        shade = PolyCollection(corners(search, squares), facecolor=grey, edgecolor=grey, linewidth=0.2, zorder=2)
-        axes.add_collection(shade, autolim=False)
-        shade.set_clip_path(region.get_path(), axes.transData)
-        entries.append(Patch(color=grey, label=f"holds all that is within {percent} % of the best"))
-    outline(axes, search.problem.forbidden, facecolor="white", edgecolor="0.35", hatch="////", linewidth=0.6, zorder=3)
-    outline(axes, search.problem.region, facecolor="none", edgecolor="black", linewidth=1.2, zorder=3)
-    entries.append(Patch(facecolor="white", edgecolor="0.35", hatch="////", label="forbidden"))
-    entries += contours(search, axes) + towns(search, axes) + star(search, axes)
-    finish(search, figure, axes, entries, path)
+Entries = list[Patch | Line2D]
 
 
-def draw_squares(search: Search, title: str, path: Path) -> None:
-    """The squares of every answer by their bounds, before charges: a large dark square is one whose bound is weak."""
-    figure, axes = sheet(search, title)
-    squares, heights = [], []
-    bound, site = search.bound(), search.site
-    assert bound is not None and site is not None
-    size = float(abs(site.high)) or 1.0
-    for run in search.runs:
-        scale = float(search.unit) * (run.solved.charges.scale if run.solved else 1)
-        for square in leaves(search, run):
-            squares.append(square)
-            heights.append((float(square.least or 0) * scale - float(bound)) / size * 100)
-    shade = PolyCollection(corners(search, squares), cmap="gray", edgecolor="0.5", linewidth=0.1, zorder=2)
-    shade.set_array(np.array(heights))
-    shade.set_clim(0, MOST)
-    axes.add_collection(shade, autolim=False)
-    outline(axes, search.problem.region, facecolor="none", edgecolor="black", linewidth=1.2, zorder=3)
-    figure.colorbar(
-        shade, ax=axes, extend="max", shrink=0.6, label="a square's bound, in per cent above the bound of all"
-    )
-    finish(search, figure, axes, star(search, axes), path)
+@dataclass(frozen=True)
+class Sheet:
+    """An empty map of a view."""
+
+    search: Search
+    view: View
+    figure: Figure
+    axes: Axes
+
+    def rings(self, rings: Sequence[Sequence[tuple[float, float]]], name: str, **style: object) -> PathPatch:
+        """The area of rings, without detail that can't be seen: holes go the other way round."""
+        closed = [np.vstack([ring, ring[:1]]) for ring in thinned(rings, DETAIL * self.view.width / WIDTH)]
+        path = Outline.make_compound_path(*(Outline(ring, closed=True) for ring in closed))
+        patch = PathPatch(path if closed else Outline(np.empty((0, 2))), gid=name, **style)
+        self.axes.add_artist(patch)
+        return patch
+
+
+def write_maps(search: Search, near: Sequence[NearSet], squares: Sequence[Bounded], title: str, folder: Path) -> None:
+    """Writes map.png, map.svg, squares.png and squares.svg into a folder, where there is a site."""
+    if search.site is None:
+        return
+    with matplotlib.rc_context(STYLE):
+        save(near_map(search, near, title), folder / "map")
+        save(squares_map(search, squares, "Where the bound comes from"), folder / "squares")
+
+
+def save(figure: Figure, path: Path) -> None:
+    """Both files of a map."""
+    for kind, metadata in NO_DATE.items():
+        figure.savefig(path.with_suffix(f".{kind}"), dpi=DPI, metadata=metadata)
+
+
+def near_map(search: Search, near: Sequence[NearSet], title: str) -> Figure:
+    """The nested near sets, which are proved; lines of equal cost, which are not; the towns and the site."""
+    sheet = empty(search, title)
+    entries: Entries = []
+    sheet.rings(search.problem.region, "land", facecolor="white", linewidth=0, zorder=1)
+    for found in reversed(near):
+        rings = [ring for rings in found.polygons for ring in rings]
+        colour = NEAR[found.percent]
+        style = {"facecolor": colour, "edgecolor": "0.25", "linewidth": 0.25, "zorder": 2}
+        sheet.rings(rings, f"near-{found.percent}", **style)
+        label = f"holds all within {found.percent} % of the site's cost"
+        entries.append(Patch(facecolor=colour, edgecolor="0.25", linewidth=0.25, label=label))
+    entries += banned(sheet) + cost_lines(sheet) + towns(sheet) + star(sheet)
+    return finished(sheet, entries, NEAR_NOTE)
+
+
+def squares_map(search: Search, found: Sequence[Bounded], title: str) -> Figure:
+    """The squares of every tile by their bounds."""
+    sheet = empty(search, title)
+    assert search.site is not None
+    top = search.site.high / search.unit
+    above = np.array([float((value - top) / (abs(top) or 1)) * 100 for *_, value in found])
+    kind = np.searchsorted([low for low, *_ in BOUNDS], above, side="right") - 1
+    colours = np.array([colour for *_, colour in BOUNDS])[kind]
+    side, origin = float(search.frame.grid_unit()), [float(value) for value in search.frame.plane(0, 0)]
+    low = np.array([(s.x, s.y) for _, s, _ in found], dtype=float).reshape(-1, 1, 2)
+    sides = np.array([s.side for _, s, _ in found], dtype=float).reshape(-1, 1, 1)
+    corners = origin + side * (low + sides * np.array([(0, 0), (1, 0), (1, 1), (0, 1)]))
+    shades = PolyCollection(corners, facecolors=colours, edgecolors="0.45", linewidths=0.1, zorder=2)
+    shades.set_gid("squares")
+    shades.set_rasterized(len(found) > AS_PICTURE)
+    sheet.axes.add_collection(shades, autolim=False)
+    entries: Entries = [Patch(facecolor=colour, edgecolor="0.45", label=label) for *_, label, colour in BOUNDS]
+    return finished(sheet, entries + banned(sheet, "none") + star(sheet), SQUARES_NOTE)
 
 
 # parts of a map
 
 
-def sheet(search: Search, title: str) -> tuple[Figure, Axes]:
-    """An empty map of the region, with a margin."""
-    places = np.array([place for ring in search.problem.region for place in ring])
-    low, high = places.min(axis=0), places.max(axis=0)
-    margin = 0.05 * float((high - low).max())
-    figure = Figure(figsize=(11, 8.5), dpi=120, layout="constrained")
-    axes = figure.add_subplot(aspect="equal", xticks=[], yticks=[])
-    axes.set_xlim(low[0] - margin, high[0] + margin)
-    axes.set_ylim(low[1] - margin, high[1] + margin)
-    axes.set_title(title)
-    return figure, axes
+def empty(search: Search, title: str) -> Sheet:
+    """A figure as wide as a page, with room for title and legend."""
+    view = view_of(search)
+    width = WIDTH - 2 * SIDE
+    height = width * view.height / view.width
+    figure = Figure(figsize=(WIDTH, height + TOP + BOTTOM))
+    tall = height + TOP + BOTTOM
+    axes = figure.add_axes((SIDE / WIDTH, BOTTOM / tall, width / WIDTH, height / tall), xticks=[], yticks=[])
+    axes.set_xlim(view.x0, view.x1)
+    axes.set_ylim(view.y0, view.y1)
+    axes.set_facecolor(BEYOND)
+    words = figure.text(0.5, 1 - 0.12 / tall, textwrap.fill(title, 88), ha="center", va="top", fontsize=10)
+    words.set_gid("title")
+    return Sheet(search, view, figure, axes)
 
 
-def outline(axes: Axes, rings: Sequence[Places], **style: object) -> PathPatch:
-    """The area of rings: holes go the other way round."""
-    closed = [Outline([*ring, ring[0]], closed=True) for ring in rings]
-    path = Outline.make_compound_path(*closed) if closed else Outline(np.empty((0, 2)))
-    return axes.add_patch(PathPatch(path, **style))
+def banned(sheet: Sheet, face: str = "white") -> Entries:
+    """The forbidden areas, and the border of the region."""
+    problem = sheet.search.problem
+    style = {"facecolor": face, "edgecolor": "0.35", "hatch": "/////", "linewidth": 0.5}
+    if problem.forbidden:
+        sheet.rings(problem.forbidden, "forbidden", zorder=3, **style)
+    if face != "none":
+        sheet.rings(outside(sheet.search, sheet.view), "outside", facecolor=BEYOND, linewidth=0, zorder=3)
+    sheet.rings(problem.region, "region", facecolor="none", edgecolor="black", linewidth=1, zorder=3)
+    border = Line2D([], [], color="black", linewidth=1, label="region")
+    return [border, *([Patch(label="forbidden", **style)] if problem.forbidden else [])]
 
 
-def corners(search: Search, squares: Sequence[Square]) -> np.ndarray:
-    """The corners of squares, in the plane."""
-    side = float(search.frame.grid_unit())
-    origin = [float(value) for value in search.frame.plane(0, 0)]
-    low = np.array([(s.x, s.y) for s in squares], dtype=float).reshape(-1, 1, 2)
-    sides = np.array([s.side for s in squares], dtype=float).reshape(-1, 1, 1)
-    return origin + side * (low + sides * np.array([(0, 0), (1, 0), (1, 1), (0, 1)]))
-
-
-def leaves(search: Search, run: Run) -> Iterator[Square]:
-    """The squares of a tile that aren't divided, its parts left out."""
-    parts = [part.tile for part in run.parts]
-    waiting = [] if run.solved is None or run.cut else [run.solved.answer.root]
-    while waiting:
-        square = waiting.pop()
-        waiting += square.quarters
-        if not square.quarters and square.least is not None and not within(square, run.tile, parts, search.bits):
-            yield square
-
-
-def contours(search: Search, axes: Axes) -> list[Line2D]:
+def cost_lines(sheet: Sheet) -> Entries:
     """Lines of equal cost, in per cent more than the site's."""
-    assert search.site is not None
-    count = int(np.clip((TERMS / len(search.landscape.x)) ** 0.5, 12, 120))
-    xs, ys = np.linspace(*axes.get_xlim(), count), np.linspace(*axes.get_ylim(), count)
-    costs = np.array([[search.landscape.cost(x, y) for x in xs] for y in ys])
-    best = search.landscape.cost(search.site.x, search.site.y)
-    above = (costs - best) / (abs(best) or 1) * 100
-    style = {"colors": "black", "linewidths": 0.6, "linestyles": "dashed", "zorder": 4}
-    lines = axes.contour(xs, ys, above, levels=HIGHER, **style)
-    axes.clabel(lines, fmt="+%g %%", fontsize=7)
-    return [Line2D([], [], color="black", linewidth=0.6, linestyle="dashed", label="cost: computed, not proved")]
+    lines = equal_costs(sheet.search, sheet.view)
+    style = {"linewidths": 0.5, "linestyles": (0, (4, 3)), "colors": "0.2", "zorder": 4}
+    drawn = LineCollection([line.places for line in lines], **style)
+    drawn.set_gid("cost-lines")
+    drawn.set_path_effects([withStroke(linewidth=1.3, foreground="white")])
+    sheet.axes.add_collection(drawn, autolim=False)
+    for words, x, y in labels(lines):
+        white = {"facecolor": "white", "edgecolor": "none", "pad": 0.6, "alpha": 0.8}
+        style = {"fontsize": 6, "ha": "center", "va": "center", "bbox": white, "clip_on": True, "zorder": 5.5}
+        sheet.axes.text(x, y, words, **style)
+    words = "so much dearer: computed, not proved"
+    return [Line2D([], [], color="0.2", linewidth=0.5, linestyle=(0, (4, 3)), label=words)]
 
 
-def towns(search: Search, axes: Axes) -> list[Line2D]:
+def towns(sheet: Sheet) -> Entries:
     """Towns by the size of their weight: discs where they pull, triangles where they push."""
-    land, (x0, x1), (y0, y1) = search.landscape, axes.get_xlim(), axes.get_ylim()
-    seen = (land.x >= x0) & (land.x <= x1) & (land.y >= y0) & (land.y <= y1)
-    entries = []
-    for marker, chosen, label in (("o", land.weights > 0, "town"), ("v", land.weights < 0, "town to be far from")):
-        chosen &= seen
-        if chosen.any():
-            sizes = LARGEST * np.abs(land.weights[chosen]) / np.abs(land.weights).max()
-            style = {"marker": marker, "facecolor": "white", "edgecolor": "black", "linewidth": 0.5, "alpha": 0.8}
-            axes.scatter(land.x[chosen], land.y[chosen], np.maximum(sizes, 2), zorder=5, **style)
-            style = {"marker": marker, "markerfacecolor": "white", "markeredgecolor": "black", "linestyle": "none"}
-            entries.append(Line2D([], [], label=f"{label}, by its weight", **style))
+    search, entries = sheet.search, []
+    land, drawn = search.landscape, heaviest(search, sheet.view)
+    weights = np.abs(land.weights[drawn])
+    most = weights.max(initial=0)
+    room = COVERED * (72 * WIDTH) ** 2 * sheet.view.height / sheet.view.width
+    largest = min(LARGEST, (room / max(1, (weights / most).sum())) ** 0.5) if most else 0
+    shape = {"markerfacecolor": "white", "markeredgecolor": "black", "linestyle": "none"}
+    for marker, sign, label in (("o", 1, "town"), ("v", -1, "town to be far from")):
+        chosen = drawn[land.weights[drawn] * sign > 0]
+        sizes = np.ceil(2 * largest * (np.abs(land.weights[chosen]) / most) ** 0.5) / 2
+        for number, size in enumerate(np.unique(sizes)[::-1].tolist()):  # a mark a size, so that files are small
+            style = {"marker": marker, "markersize": size, "markeredgewidth": 0.4, "alpha": 0.85, "zorder": 5}
+            some = chosen[sizes == size]
+            (marks,) = sheet.axes.plot(land.x[some], land.y[some], **shape, **style)
+            marks.set_gid(("towns" if sign > 0 else "towns-far") + (f"-{number}" if number else ""))
+        if len(chosen):
+            entries.append(Line2D([], [], marker=marker, markersize=5, label=f"{label}, by weight", **shape))
+    if len(drawn) < len(land.x) and entries:
+        entries[-1].set_label(f"{entries[-1].get_label()}\n({town_words(search, len(drawn))})")
     return entries
 
 
-def star(search: Search, axes: Axes) -> list[Line2D]:
+def star(sheet: Sheet) -> Entries:
     """The site."""
-    assert search.site is not None
-    style = {"marker": "*", "markersize": 18, "color": "black", "markeredgecolor": "white", "linestyle": "none"}
-    axes.plot([search.site.x], [search.site.y], zorder=6, **style)
-    return [Line2D([], [], label="site", **style)]
+    site = sheet.search.site
+    assert site is not None
+    style = {"marker": "*", "color": SITE, "markeredgecolor": "black", "markeredgewidth": 0.7, "linestyle": "none"}
+    (drawn,) = sheet.axes.plot([site.x], [site.y], zorder=6, markersize=14, **style)
+    drawn.set_gid("site")
+    return [Line2D([], [], label="site", markersize=9, **style)]
 
 
-def finish(search: Search, figure: Figure, axes: Axes, entries: Sequence[Patch | Line2D], path: Path) -> None:
-    """A scale bar, north, a legend; and the file."""
-    (x0, x1), (y0, y1) = axes.get_xlim(), axes.get_ylim()
-    metres = round_length((x1 - x0) * float(search.problem.unit) / 4)
-    length = metres / float(search.problem.unit)
-    left, base = x0 + 0.03 * (x1 - x0), y0 + 0.03 * (y1 - y0)
-    axes.plot([left, left + length], [base, base], color="black", linewidth=3, solid_capstyle="butt", zorder=7)
-    words = f"{metres / 1000:g} km" if metres >= 1000 else f"{metres:g} m"
-    axes.annotate(words, (left + length / 2, base), (0, 4), textcoords="offset points", ha="center", zorder=7)
+def finished(sheet: Sheet, entries: Entries, note: str) -> Figure:
+    """With a scale bar, north, a legend, and a note below."""
+    view, axes, unit = sheet.view, sheet.axes, float(sheet.search.problem.unit)
+    metres = round_length(view.width * unit / 4)
+    left, base = view.x0 + 0.03 * view.width, view.y0 + 0.025 * view.width
+    places = [left, left + metres / unit], [base, base]
+    (bar,) = axes.plot(*places, color="black", linewidth=2.5, solid_capstyle="butt", zorder=7)
+    bar.set_gid("scale-bar")
+    words = {"textcoords": "offset points", "ha": "center", "zorder": 7}
+    axes.annotate(length_words(metres), (left + metres / unit / 2, base), (0, 3), **words)
     arrow = {"arrowstyle": "-|>", "color": "black"}
-    axes.annotate("", (0.97, 0.97), (0.97, 0.90), xycoords="axes fraction", arrowprops=arrow)
-    axes.annotate("N", (0.97, 0.875), xycoords="axes fraction", ha="center", va="center")
-    axes.legend(handles=entries, loc="upper center", bbox_to_anchor=(0.5, 0), ncol=3, frameon=False, fontsize=8)
-    figure.savefig(path, metadata={"Software": None})
-
-
-def round_length(most: float) -> float:
-    """The greatest of 1, 2 and 5 times a power of ten that isn't more."""
-    power = 10.0 ** floor(log10(most))
-    return max(step * power for step in (1, 2, 5) if step * power <= most)
+    axes.annotate("", (0.97, 0.98), (0.97, 0.92), xycoords="axes fraction", arrowprops=arrow, zorder=7)
+    north = axes.annotate("N", (0.97, 0.90), xycoords="axes fraction", ha="center", va="center", zorder=7)
+    north.set_gid("north")
+    tall = sheet.figure.get_figheight()
+    place = {"loc": "upper center", "bbox_to_anchor": (0.5, (BOTTOM - 0.05) / tall), "frameon": False}
+    legend = sheet.figure.legend(handles=entries, ncol=3, fontsize=7, columnspacing=1.2, **place)
+    legend.set_gid("legend")
+    sheet.figure.text(0.5, 0.08 / tall, note, ha="center", va="bottom", fontsize=7.5)
+    return sheet.figure

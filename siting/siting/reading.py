@@ -2,8 +2,9 @@
 
 from collections import Counter
 from collections.abc import Sequence
-from dataclasses import dataclass
+from dataclasses import asdict, dataclass
 from fractions import Fraction
+from typing import Any
 
 import pyproj
 
@@ -28,6 +29,10 @@ class Asked:
     crs: str | None
     grow: Fraction | None  # metres
     keep_off: Fraction | None
+
+    def figures(self) -> dict[str, Any]:
+        """The same as report.json has it, for an audit and to compare."""
+        return asdict(self) | {"grow": self.grow and str(self.grow), "keep_off": self.keep_off and str(self.keep_off)}
 
 
 @dataclass(frozen=True)

@@ -3,9 +3,9 @@
 import json
 import os
 from collections import Counter
-from dataclasses import asdict
 from fractions import Fraction
-from math import ceil, floor
+from functools import cached_property
+from math import floor
 from pathlib import Path
 from typing import Any
 
@@ -13,35 +13,28 @@ import numpy as np
 import pyproj
 
 from .compare import digests
-from .exact.frame import GRID
+from .exact.bound import Least
+from .figures import decimal, thousands
 from .layers import by_area, write_areas
-from .maps import write_page
+from .geopackage import write_package
+from .maps import write_maps
+from .near import NearSet, near_sets
+from .package import below, layers_of
+from .page import Page, write_page
 from .problem import Problem
 from .reading import Read
+from .squares import Bounded, bounded_squares
 from .tiles import Run, Search
 
 WITHIN, WIDER, NO_SITE = "within", "wider", "no site"
 STATUS = {WITHIN: 0, WIDER: 1, NO_SITE: 4}
 
 
-def decimal(value: Fraction, places: int, up: bool = False) -> str:
-    """A number with so many places, rounded down, or up."""
-    scaled = value * 10**places
-    whole = ceil(scaled) if up else floor(scaled)
-    sign, digits = "-" if whole < 0 else "", str(abs(whole)).rjust(places + 1, "0")
-    return f"{sign}{digits[:-places]}.{digits[-places:]}"
-
-
-def thousands(value: Fraction) -> str:
-    """A large number for readers: rounded, with its thousands set apart."""
-    return f"{round(value):,}".replace(",", " ")
-
-
 class Report:
     """All that is said of a search that has ended."""
 
     def __init__(self, read: Read, search: Search, within: Fraction):
-        self.read, self.search = read, search
+        self.read, self.search, self.within = read, search, within
         self.problem: Problem = read.problem
         self.metres = self.problem.unit
         site, bound = search.site, search.bound()
@@ -55,25 +48,47 @@ class Report:
             if self.cost[1] - self.bound <= size * within / 100:
                 self.answer = WITHIN
 
+    @cached_property
+    def near(self) -> list[NearSet]:
+        """The near sets, the least first."""
+        return near_sets(self.search)
+
+    @cached_property
+    def squares(self) -> list[Bounded]:
+        """The squares that the bound comes from."""
+        return bounded_squares(self.search)
+
     @property
     def status(self) -> int:
         return STATUS[self.answer]
 
     # the figures
 
+    def weakest(self) -> tuple[int, Least] | None:
+        """The number of the tile with the least bound, and the square that has it."""
+        found = [(n, run.least) for n, run in enumerate(self.search.runs, 1) if run.least is not None and not run.cut]
+        return min(found, key=lambda row: row[1].value, default=None)
+
+    def charged(self) -> dict[str, Any] | None:
+        """The tile that the bound and its charges come from, and its square, in grid units."""
+        weakest = self.weakest()
+        if weakest is None:
+            return None
+        number, least = weakest
+        return {"tile": number, "square": least.square[:3]}
+
     def charges(self) -> dict[str, Fraction]:
         """Where the difference between cost and bound comes from, in weight times metres."""
-        runs = [run for run in self.search.runs if run.least is not None and not run.cut]
-        if not runs or self.cost is None or self.bound is None:
+        weakest = self.weakest()
+        if weakest is None or self.cost is None or self.bound is None:
             return {}
-        weakest = min(runs, key=lambda run: run.least.value if run.least else 0)
-        assert weakest.least is not None
+        _, least = weakest
         unit = self.search.unit * self.metres
         named = {
-            "positions": weakest.least.charge.rounded * unit,
-            "joined": weakest.least.charge.joined * unit,
-            "cutoffs": weakest.least.charge.cutoffs * unit,
-            "weights": weakest.least.charge.weights * unit,
+            "positions": least.charge.rounded * unit,
+            "joined": least.charge.joined * unit,
+            "cutoffs": least.charge.cutoffs * unit,
+            "weights": least.charge.weights * unit,
             "borders": Fraction(0),
             "ground": Fraction(0),
         }
@@ -147,7 +162,7 @@ class Report:
         """report.json."""
         left_out: Counter[str] = self.read.left_out
         gap, share = self.gap, self.share()
-        near = self.search.near_area(Fraction(1)) if self.cost else None
+        near = {near.percent: float(near.area * self.metres**2) for near in self.near}
         return {
             "question": self.problem.question.word,
             "kind": self.problem.question.kind,
@@ -158,25 +173,22 @@ class Report:
             "bound": None if self.bound is None else decimal(self.bound, 6),
             "gap_percent": None if gap is None else float(decimal(gap, 6, up=True)),
             "gap_share_percent": None if share is None else float(decimal(share, 6, up=True)),
+            "within_percent": str(self.within),
+            "charged": self.charged(),
             "charges": {name: round(float(value), 6) for name, value in self.charges().items()},
             "towns": {
                 "read": self.read.read,
                 "used": len(self.problem.towns.weights),
                 "left_out": dict(left_out),
             },
-            "near_set": None if near is None else {"percent": 1, "square_metres_at_most": near},
+            "near_sets": [{"percent": p, "square_metres_at_most": area} for p, area in near.items()],
             **self.neighbours(),
             "from": os.getcwd(),
-            "asked": self.asked(),
+            "asked": self.read.asked.figures(),
             "digests": digests(self.read.asked),
             "frame": self.search.frame,
             "tiles": self.tiles(),
         }
-
-    def asked(self) -> dict[str, Any]:
-        """The words of the command, for an audit and to compare."""
-        lengths = {"grow": self.read.asked.grow, "keep_off": self.read.asked.keep_off}
-        return asdict(self.read.asked) | {name: value and str(value) for name, value in lengths.items()}
 
     # the words
 
@@ -210,17 +222,17 @@ class Report:
         lines += [
             "",
             f"Cost: {high if low == high else f'{low} to {high}'} weight times metres, grid distance",
-            f"No permitted point costs less than {thousands(self.bound)}",
+            f"No permitted point costs less than {thousands(floor(self.bound))}",
         ]
         if self.gap is not None:
             lines.append(f"So the site is at most {decimal(self.gap, 4, up=True)} % from the best")
         if self.problem.question.sign == 0:
             share = decimal(self.share() or Fraction(0), 6, up=True)
             lines.append(f"  and {share} % of all weight times distance, which counts where weights cancel")
-        near = figures["near_set"]
-        if near is not None:
-            area = near["square_metres_at_most"] / 1e6
-            lines.append(f"Sites within 1 % of it cover at most {area:,.3f} square kilometres")
+        if figures["near_sets"]:
+            percents = ", ".join(str(near["percent"]) for near in figures["near_sets"])
+            areas = ", ".join(f"{near['square_metres_at_most'] / 1e6:.3f}" for near in figures["near_sets"])
+            lines.append(f"Sites within {percents} % of its cost cover at most {areas} square kilometres")
         names = " and ".join(f"{name}.geojson" for name in self.read.made)
         if names:
             lines.append(f"All of this is for places outside the areas in {names}, as written")
@@ -250,8 +262,11 @@ class Report:
         text = self.text(figures)
         (folder / "report.json").write_text(json.dumps(figures, indent=1) + "\n")
         (folder / "report.txt").write_text(text)
+        layers = layers_of(self.search, self.near, self.squares, self.site_row())
+        write_package(folder / "siting.gpkg", layers, self.read.crs)
         if maps:
-            write_page(self.search, self.headline(), text, folder)
+            write_maps(self.search, self.near, self.squares, self.headline(), folder)
+            write_page(self.page(figures, text), folder / "report.html")
         for name, rings in self.read.made.items():
             write_areas(folder / f"{name}.geojson", by_area(rings), crs_name(self.read.crs))
         for number, run in enumerate(self.search.runs, 1):
@@ -259,6 +274,34 @@ class Report:
             if run.solved:
                 (folder / f"{number}.siting").write_text(run.solved.instance)
                 (folder / f"{number}.answer").write_text(run.solved.text)
+
+    def site_row(self) -> dict[str, Any] | None:
+        """The row of the layer `site`."""
+        if self.cost is None:
+            return None
+        question, bound = self.problem.question.word, None if self.bound is None else below(self.bound)
+        gap = None if self.gap is None else -below(-self.gap)
+        return {"question": question, "cost": -below(-self.cost[1]), "bound": bound, "gap_percent": gap}
+
+    def page(self, figures: dict[str, Any], text: str) -> Page:
+        """What report.html has."""
+        answers = [(n, run.solved.text) for n, run in enumerate(self.search.runs, 1) if run.solved]
+        return Page(self.search, self.near, self.squares, self.headline(), self.promise(figures), text, answers)
+
+    def promise(self, figures: dict[str, Any]) -> list[str]:
+        """What holds, in sentences."""
+        if self.bound is None:
+            return ["No point is permitted."]
+        said = [f"No permitted point costs less than {figures['bound']}, over all towns that count."]
+        if self.cost is not None:
+            low, high = figures["cost"]
+            said = [
+                "The site, as its coordinates are written, is permitted: tested exactly against the layers.",
+                f"Its cost over all {figures['towns']['used']} towns that count lies between {low} and {high}.",
+                *said,
+                "Each near set holds every permitted point that costs at most so many per cent more than the site.",
+            ]
+        return said
 
 
 def proof_of(run: Run) -> dict[str, Any]:

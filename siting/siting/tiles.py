@@ -28,6 +28,8 @@ BUDGET = 8_000  # leases of a solve
 STEPS = 1_500  # squares whose charge is computed, for a bound
 FEW_STEPS = 100  # the same, for one that is good enough already
 ROUNDS = 12  # solves of one tile, of the kind max
+LISTED = 20_000  # squares that `near` is to list, about
+SLACK, DEPTH = 2**60, 16  # at most, of `near`
 WEAKEST = 300  # leaves where missed towns are looked for, of the kind max
 
 
@@ -322,33 +324,31 @@ class Search:
 
     # how free the choice is
 
-    def near_area(self, percent: Fraction) -> float:
-        """An area, in square metres, that holds every permitted point which costs at most so many per cent more than
-        the site."""
-        squares = [square for run in self.runs for square in self.near(run, percent)]
-        unit = self.frame.grid_unit() * self.problem.unit
-        return float(sum(square.side**2 for square in squares) * unit**2)
-
-    def near(self, run: Run, percent: Fraction) -> list[Square]:
-        """Squares that hold every such point of a tile, its parts left out: those that `near` lists of its answer,
-        or leaves, where these are too many."""
+    def near(self, run: Run, percent: Fraction, listed: bool = True) -> list[Square]:
+        """Squares that hold every permitted point of a tile, its parts left out, which costs at most so many per cent
+        more than the site: those that `near` lists of its answer, or leaves, where it isn't asked or lists too many."""
         if self.site is None or run.solved is None or run.cut:
             return []
         most = floor((self.site.high + abs(self.site.high) * percent / 100) / self.unit) + 1
         squares = self.weak_squares(run, most, FEW_STEPS)
-        _, instance, text, answer, _, charges = run.solved
-        if squares and answer.site is not None:
-            charge = max(sum(charges.of(s.x, s.y, s.side)) for s in squares)
-            cost = int(text[len(instance) :].partition("\ncost ")[2].split()[1])
-            slack = max(0, ceil(Fraction(most + charge, charges.scale)) - cost)
-            squares = self.listed(text, slack) or squares
+        if squares and listed and run.solved.answer.site is not None:
+            squares = self.listed(run.solved, squares, most) or squares
         parts = [part.tile for part in run.parts]
         return [square for square in squares if not within(square, run.tile, parts, self.bits)]
 
-    def listed(self, answer: str, slack: int) -> list[Square]:
-        """What `near` lists of an answer; nothing where it is too much."""
-        text = self.program.run(["near", f"slack={slack}", "depth=9"], answer, NEAR)
-        head, *lines = (line.split() for line in text.splitlines())
+    def listed(self, solved: Solved, weak: list[Square], most: int) -> list[Square]:
+        """What `near` lists of an answer, where all that costs less than `most` is in the weak squares: so finely that
+        these would be some thousand squares; nothing where it is too much."""
+        _, instance, text, answer, _, charges = solved
+        charge = max(sum(charges.of(s.x, s.y, s.side)) for s in weak)
+        cost = int(text[len(instance) :].partition("\ncost ")[2].split()[1])
+        slack = max(0, ceil(Fraction(most + charge, charges.scale)) - cost)
+        side = answer.root.side
+        depth = (LISTED * side**2 // sum(s.side**2 for s in weak)).bit_length() // 2
+        if slack > SLACK:
+            return []
+        words = ["near", f"slack={slack}", f"depth={min(DEPTH, depth, side.bit_length() - 2)}"]
+        head, *lines = (line.split() for line in self.program.run(words, text, NEAR).splitlines())
         side = 1 << int(head[2]) if head[0] == "near" else 0
         return [Square(int(line[1]), int(line[2]), side, None) for line in lines if line[0] == "square"]
 

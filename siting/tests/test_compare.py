@@ -1,11 +1,14 @@
 """Other sites beside an answer: their costs by hand, what is permitted, and layers that have changed."""
 
+import csv
 import json
+from fractions import Fraction
 from math import hypot
 from pathlib import Path
 
 import pytest
 from siting.command import main
+from siting.exact.cost import cost, to_towns
 from siting.program import BUILT
 
 PROGRAM = str(BUILT if BUILT.exists() else Path(__file__).parent / "stand_in")
@@ -23,6 +26,7 @@ def answer(tmp_path: Path, monkeypatch: pytest.MonkeyPatch, capsys: pytest.Captu
     Path("region.csv").write_text(f'wkt\n"{SQUARE}"\n')
     Path("forest.csv").write_text(f'wkt\n"{FOREST}"\n')
     given = ["--towns", "towns.csv", "--weight", "people", "--region", "region.csv", "--forbid", "forest.csv"]
+    given += ["--name", "name", "--maps"]
     words = ["--keep-off", "50", "--crs", "EPSG:25832", "--bsss", PROGRAM, "--out", "out"]
     assert main(["near", *given, *words]) in (0, 1)
     monkeypatch.chdir("/")
@@ -34,20 +38,51 @@ def by_hand(x: float, y: float) -> float:
     return sum(weight * hypot(x - a, y - b) for _, weight, a, b in TOWNS)
 
 
-def test_compare(answer: Path, capsys: pytest.CaptureFixture[str]) -> None:
+PLACES = [(500.0, 500.0), (700.0, 0.0), (700.0, 200.0), (900.0, 150.5), (100.5, 160.0), (-1.0, 5.0)]
+WHY = [
+    "",
+    "inside feature 1 of forest.csv",
+    "",
+    "nearer than 50 m to a town, in kept-off.geojson",
+    "",
+    "outside the region",
+]
+
+
+def test_compare(answer: Path, tmp_path: Path, capsys: pytest.CaptureFixture[str]) -> None:
     figures = json.loads((answer / "report.json").read_text())
-    x, y = (float(figures["site"][axis]) for axis in "xy")
-    places = [(x, y), (500.0, 500.0), (700.0, 0.0), (700.0, 200.0), (900.0, 150.5), (100.5, 160.0), (-1.0, 5.0)]
-    allowed = [True, True, False, True, False, True, False]  # 700, 0 is in the forest, 900, 150.5 near a town
-    assert main(["compare", str(answer), "--site", *(f" {a!r},{b!r}" for a, b in places)]) == 0
+    own = tuple(float(figures["site"][axis]) for axis in "xy")
+    words = ["--csv", str(tmp_path / "sites.csv"), "--site", *(f" {a!r},{b!r}" for a, b in PLACES)]
+    assert main(["compare", str(answer), *words]) == 0
     lines = capsys.readouterr().out.splitlines()
-    for place, is_allowed, line in zip(places, allowed, lines, strict=True):
-        coordinates, permitted, cost, against, _ = line.split("; ")
-        assert coordinates == f"{place[0]!r},{place[1]!r}"
-        assert permitted == ("permitted" if is_allowed else "not permitted")
-        assert float(cost.removeprefix("cost ")) == pytest.approx(by_hand(*place), abs=0.002)
-        more = (by_hand(*place) / by_hand(x, y) - 1) * 100
-        assert float(against.split(" %")[0]) == pytest.approx(more, abs=0.001)
+    rows = list(csv.DictReader((tmp_path / "sites.csv").open()))
+    assert [row["site"] for row in rows] == ["answer", "1", "2", "3", "4", "5", "6"]
+    towns = to_towns([town[2:] for town in TOWNS], [Fraction(town[1]) for town in TOWNS], [None] * 3)
+    for (x, y), reason, row, line in zip([own, *PLACES], ["", *WHY], rows, lines[1:], strict=True):
+        assert (row["x"], row["y"]) == (repr(x), repr(y))
+        assert (row["permitted"], row["why not"]) == ("no" if reason else "yes", reason)
+        high = cost("sum", towns, x, y)[1]
+        assert 0 <= Fraction(row["cost"]) - high < Fraction(1, 10**6)
+        assert float(row["cost"]) == pytest.approx(by_hand(x, y), abs=0.002)
+        answers = Fraction(figures["cost"][1])
+        for name, than in (("bound", Fraction(figures["bound"])), ("answer", answers)):
+            assert float(row[f"% above the {name}"]) == pytest.approx(float((high - than) / answers * 100), abs=6e-5)
+        by_way = sorted(TOWNS, key=lambda town: hypot(x - town[2], y - town[3]))
+        assert (row["nearest town"], row["farthest town"]) == (by_way[0][0], by_way[-1][0])
+        assert float(row["its metres"]) == pytest.approx(hypot(x - by_way[0][2], y - by_way[0][3]), abs=0.06)
+        assert line.split()[:4] == [row["site"], row["x"], row["y"], row["permitted"]]
+        at = lines[0].index("cost") + len("cost")
+        assert line[:at].endswith(row["cost"])  # columns line up
+
+
+def test_a_page_with_the_sites(answer: Path, tmp_path: Path, capsys: pytest.CaptureFixture[str]) -> None:
+    words = ["compare", str(answer), "--site", "500,500", "700,0", "--page", str(tmp_path / "sites.html")]
+    assert main(words) == 0
+    page, before = (tmp_path / "sites.html").read_text(), (answer / "report.html").read_text()
+    assert "inside feature 1 of forest.csv" in page and page.count("<path d=") == before.count("<path d=") + 2
+    assert "<td>500.0</td>" in page and "<td>500.0</td>" not in before
+    (answer / "report.html").unlink()
+    assert main(words) == 2 and "--maps" in capsys.readouterr().err
 
 
 def test_changed_layers_are_refused(answer: Path, capsys: pytest.CaptureFixture[str]) -> None:

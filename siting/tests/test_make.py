@@ -1,12 +1,16 @@
 """Made layers: the same from the same seed, and what their names say."""
 
+import subprocess
 from pathlib import Path
+from random import Random
 
 import pytest
 from shapely.geometry import Polygon
 from shapely.ops import unary_union
 from siting.layers import read_points, read_rings
-from siting.make import PACKAGE, Wanted, make
+from siting.make import PACKAGE, Wanted, make, town_names
+
+EXAMPLE = Path(__file__).parents[2] / "examples" / "district"
 
 
 @pytest.mark.parametrize("seed", range(12))
@@ -47,3 +51,18 @@ def test_package_has_the_same(tmp_path: Path) -> None:
     for name in ("district", "forests", "parcels"):
         layers = read_rings(str(tmp_path / f"{name}.geojson")), read_rings(f"{tmp_path / PACKAGE}:{name}")
         assert set(map(frozenset, layers[0].rings)) == set(map(frozenset, layers[1].rings))
+
+
+def test_the_example_is_what_its_script_makes(tmp_path: Path) -> None:
+    subprocess.run([EXAMPLE / "make", tmp_path], check=True)
+    names = ["district.geojson", "forests.geojson", "towns.csv"]
+    assert sorted(path.name for path in tmp_path.iterdir()) == names
+    for name in names:
+        assert (tmp_path / name).read_bytes() == (EXAMPLE / name).read_bytes()
+    people = read_points(str(EXAMPLE / "towns.csv"), ["name", "people"])
+    assert len(set(people.fields["name"])) == len(people.x) == 300
+
+
+def test_names_are_no_two_alike() -> None:
+    names = town_names(Random(1), 3000)
+    assert len(set(names)) == 3000 and sum(name[-1].isdigit() for name in names) > 2000

@@ -176,10 +176,14 @@ def test_groups_that_are_refused() -> None:
         ("sum", [*single, single[0]]),  # a town twice
         ("sum", [single[0]._replace(members=(0, 1)), single[2]]),  # two signs
         ("sum", [single[0]._replace(members=(0, 2)), single[1]]),  # two cutoffs
+        ("sum", [*single[:2], single[0]._replace(members=(-3,))]),  # a town twice, counted from the end
         ("max", [single[0]._replace(members=(0, 0))]),
     ):
         with pytest.raises(ValueError):
             Charges(kind, towns, groups, 1)
+    for scale in (0, -1):  # what is at least a bound, times this, is at most it
+        with pytest.raises(ValueError):
+            Charges("sum", towns, single, scale)
     assert len(Charges("max", towns, single[:2], 1).groups) == 2  # of the kind max one may be left out
 
 

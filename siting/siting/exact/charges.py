@@ -121,9 +121,9 @@ class Charges:
     def __init__(self, kind: str, towns: Sequence[Town], groups: Sequence[Group], scale: int):
         members = [number for group in groups for number in group.members]
         wrong = len(members) < len(towns) if kind == "sum" else len(members) > len(groups)
-        if wrong or len(set(members)) < len(members):
+        if wrong or len(set(members)) < len(members) or not set(members) <= set(range(len(towns))) or scale < 1:
             raise ValueError(
-                "each town is in one group; of the kind max, a group is one town, and some may be left out"
+                "each town is in one group, and of the kind max alone, or in none; and the scale is above 0"
             )
         self.kind, self.scale = kind, scale
         measures = [measure(group, towns, scale) for group in groups]
