@@ -1,10 +1,11 @@
-"""The program that the tools run."""
+"""The programs that the tools run."""
 
 import subprocess
 from pathlib import Path
 
 ROOT = Path(__file__).resolve().parent.parent
 PROGRAM = str(ROOT / "crates/bsss/out/bsss")
+COVERS = str(ROOT / "crates/bsss_cover/out/bsss_cover")  # which takes no words
 
 
 def run(words, text):

@@ -45,11 +45,6 @@ pub loads_text : (told left : Option (List ℕ)) (h : Head) (ns : List Node)
 loads_text None left h ns e = tt
 loads_text (Some bytes) left h ns e = e.0
 
-loads_end : (told left : Option (List ℕ)) (h : Head) (ns : List Node)
-    → IfSome told (λ bytes. LoadsTo bytes left (Ok (h, ns))) → IfSome told (λ bytes. left ≡ Some [])
-loads_end None left h ns e = tt
-loads_end (Some bytes) left h ns e = e.1
-
 pub loads_all : (told left : Option (List ℕ)) (h : Head) (ns : List Node)
     → IfSome told (λ bytes. LoadsTo bytes left (Ok (h, ns)))
     → IfSome told (λ xs. HasRest xs left)

@@ -1,11 +1,10 @@
 -- The text of a valid answer fits its room in memory, and what a summary is written from.
-use Rattle.std.proofs.Common.{◌≡◌, ℕ, ◌≤◌, List, [], ◌∷◌, ◌++◌, Option, None, Some, Bool, codes, refl, ap, subst, ◌∙◌, arith}
-use Rattle.std.specs.Prelude.{length, pos, if◌then◌else◌, MatchOption, IsErrOf, Result, Ok, Err}
+use Rattle.std.proofs.Common.{◌≡◌, ℕ, ◌≤◌, List, [], ◌∷◌, ◌++◌, Option, None, Some, Bool, codes, refl, ap, subst, ◌∙◌}
+use Rattle.std.specs.Prelude.{length, pos, if◌then◌else◌, MatchOption}
 use Rattle.std.specs.Fmt.{signed_decimal}
 use Rattle.std.proofs.lemmas.Bool.{le-leb}
 use Rattle.std.proofs.Math.Dec.{leb-zero}
 use Rattle.std.proofs.lemmas.List.Concat.{flat_map-append}
-use Rattle.port_io.specs.Faults.{Rose}
 use Rattle.port_io.specs.Bytes.{Took, told}
 use Rattle.port_io.specs.MemoryPorts.{SureSinkState, sure_taken}
 use Rattle.siting_definitions.specs.declared.Mark.{Mark}
@@ -19,21 +18,14 @@ use Rattle.bsss_cli.specs.declared.status.Status.{Status}
 use Rattle.bsss_cli.specs.Status.{meaning_of, status_of}
 use Rattle.case_maker.specs.Made.{made}
 use Rattle.cert_checker.specs.declared.checking.Accepted.{Accepted}
-use Rattle.cert_checker.specs.declared.faults.CheckError.{CheckError}
-use Rattle.cert_checker.specs.declared.faults.CheckError.TheVariants.{Fault, ReadFault, TooLong, NoMemory}
 use Rattle.cert_checker.specs.Checking.{accepted_of}
-use Rattle.cert_checker.specs.Steps.{ChecksTo}
 use Rattle.command_line.specs.declared.command.Settings.{Settings}
 use Rattle.bsss_cli.specs.Ports.{SinkGhosts}
 use Rattle.bsss_cli.specs.Outcome.{Says, Ended}
 use Rattle.bsss_cli.specs.Solve.{IsAnswerTo}
 use Rattle.bsss_cli.specs.Trial.{Tries, summary_lines, trial}
-use Rattle.bsss_cli.proofs.OutcomeLemmas.{ok≢err, Ended-says}
+use Rattle.bsss_cli.proofs.OutcomeLemmas.{Ended-says}
 use Rattle.bsss_cli.proofs.OutcomeLemmas.{status_of-whole}
-
--- a count that stays 0 didn't rise
-pub no_fault : Rose 0 0 → ⊥
-no_fault rose = absurd (omega (arith, rose (λ e. absurd (omega (arith, e)))))
 
 -- an empty sink in memory tells a text that fits its room
 pub text_fits : (room : ℕ) (before after : SureSinkState) (text : List ℕ)
@@ -94,14 +86,3 @@ summary-parts seed points h nodes =
     let rest = optional_line (codes "bound") h.bound ∷ last_lines h nodes in
     flat_map-append line_text (first_lines seed points h.word) (best_lines h ++ rest)
     ∙ ap (λ bytes. text_of (first_lines seed points h.word) ++ bytes) (flat_map-append line_text (best_lines h) rest)
-
--- ---- what a check in memory answers
--- a check of an accepted text, over a source that never fails, answers an error for want of memory
--- alone
-pub only_memory : (wanted : Result Accepted CheckError) (x : Accepted) (left : Option (List ℕ)) (e : CheckError)
-    → wanted ≡ Ok x → ChecksTo wanted left (Err e)
-    → (IsErrOf {T = Accepted} (Err e) ReadFault → Rose 0 0) → e ≡ NoMemory
-only_memory wanted x left (Fault fault) is rejects rose = absurd (ok≢err wanted x (Fault fault) is rejects)
-only_memory wanted x left TooLong is rejects rose = absurd (ok≢err wanted x TooLong is rejects)
-only_memory wanted x left ReadFault is rejects rose = absurd (no_fault (rose refl))
-only_memory wanted x left NoMemory is rejects rose = refl

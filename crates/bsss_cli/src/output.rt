@@ -4,6 +4,7 @@ ghost use Rattle.std.specs.Prelude.{◌≡◌, ◌≤◌, ◌-◌, ◌++◌, [],
 ghost use Rattle.std.specs.Fmt.{signed_decimal};
 ghost use Rattle.port_io.specs.Output.{IsOpen, PutOn, Wrote, sink_view};
 ghost use Rattle.port_io.specs.Output as outputs;
+ghost use Rattle.siting_definitions.specs.declared.TheConstants.{NODE_LIMIT};
 ghost use Rattle.siting_definitions.specs.InstanceText.{instance_text};
 ghost use Rattle.siting_definitions.specs.Sites.{root_of};
 ghost use Rattle.siting_definitions.specs.Line.{line_text, text_of};
@@ -137,7 +138,7 @@ pub(crate) fn say_summary<K: Sink>(
     nodes: u64,
     sink: &mut K,
 ) -> Status
-    requires { nodes ≤ 4000001 }
+    requires { nodes ≤ NODE_LIMIT }
     ensures { Says (sink_ghosts K.room K.taken K.faults K.is_strict)
         sink.old sink.new (statuses.status_of head.now.word)
         (text_of (summary_lines seed points head.now nodes)) result }
@@ -352,7 +353,7 @@ fn put_summary<K: Sink>(
     nodes: u64,
     sink: &mut K,
 ) -> Result<(), WriteFault>
-    requires { nodes ≤ 4000001 }
+    requires { nodes ≤ NODE_LIMIT }
     ensures { Wrote (sink_view K.room K.taken K.faults K.is_strict sink.old)
         (sink_view K.room K.taken K.faults K.is_strict sink.new)
         (text_of (summary_lines seed points head.now nodes)) result }
@@ -428,7 +429,7 @@ fn write_summary<K: Sink>(
     out: &mut Out<K>,
 ) -> Result<(), WriteFault>
     requires open { IsOpen out.old }
-    requires nodes { nodes ≤ 4000001 }
+    requires nodes { nodes ≤ NODE_LIMIT }
     ensures { PutOn K.room K.taken K.faults K.is_strict out.old out.new
         (text_of (summary_lines seed points head.now nodes)) result }
 {

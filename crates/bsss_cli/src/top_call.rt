@@ -16,7 +16,7 @@ use crate::commands::solve::{run_solve, run_solve_by_team};
 use crate::commands::trial::run_trial;
 use crate::output::say;
 use crate::status::Status;
-use command_line::{Argv, Command, parse_words, wants_team};
+use command_line::{Argv, Command, has_team, parse_words};
 use port_io::{Sink, Source};
 use site_workers::Gate;
 use std::alloc::Global;
@@ -44,10 +44,12 @@ pub fn run<R: Threads + Wait + Sync, S: Source, K: Sink, G: Gate + Sync>(
     // What comes where the source and the sink have no fault and there is memory.
     ensures complete { Completes (promise_of (command_of words.now)) (S.left source.old) result }
 {
-    if !wants_team(words) {
-        return run_alone(alloc, words, source, sink);
+    let command = parse_words(words);
+    if has_team(command) {
+        run_by_team(rt, alloc, command, source, sink, gate)
+    } else {
+        run_command(alloc, command, source, sink)
     }
-    run_by_team(rt, alloc, parse_words(words), source, sink, gate)
 }
 
 /// Runs the command that the words are, for one worker, with the clauses of `run`. It waits for

@@ -4,11 +4,14 @@ ghost use Rattle.std.specs.Prelude.{IfOk};
 ghost use Rattle.port_io.specs.Output.{IsOpen};
 
 use crate::faults::{answer_fault, instance_fault};
-use crate::statuses::sentence_of;
+use crate::nearest::{nearest_command, nearest_setting};
+use crate::statuses::{GREATEST_POOL, sentence_of};
 use crate::usage::USAGE;
-use crate::words::{WordFault, asks_for_help, word_fault};
 use bsss_cli::{Argv, Status};
+use command_line::{Command, Setting, WordFault, fault_of_words, parse_words};
 use port_io::{Out, Piece, Sink, WriteFault};
+use siting_definitions::POOL_LIMIT;
+use text_lines::says;
 
 /// What a word is that gives no value, as a file name is.
 const NO_VALUE: &str =
@@ -34,7 +37,17 @@ fn put_help<K: Sink>(words: &Argv, status: Status, out: &mut Out<K>) -> Result<(
         Status::Usage => put_usage(words, out),
         Status::BadInstance { number, line } => put_fault(line, instance_fault(number), out),
         Status::Rejected(fault) => put_fault(fault.line, answer_fault(fault.number), out),
+        Status::PoolFull if pool_of(words) == Some(POOL_LIMIT) => put_sentence(GREATEST_POOL, out),
         _ => put_sentence(sentence_of(status), out),
+    }
+}
+
+/// How many squares may be open at a time, if the words say it.
+fn pool_of(words: &Argv) -> Option<u32> {
+    match parse_words(words) {
+        Some(Command::Solve(settings)) => Some(settings.pool),
+        Some(Command::Resume { pool, .. }) => pool,
+        _ => None,
     }
 }
 
@@ -50,25 +63,79 @@ fn put_usage<K: Sink>(words: &Argv, out: &mut Out<K>) -> Result<(), WriteFault>
     out.put(b"bsss: the word `--help` alone lists the commands with their words\n")
 }
 
+/// Whether the words ask for the commands: there are none, or the first or the second is `help`,
+/// `--help` or `-h`.
+fn asks_for_help(words: &Argv) -> bool {
+    words.is_empty() || is_help(words.word(0)) || words.len() > 1 && is_help(words.word(1))
+}
+
+/// Whether a word asks for help.
+fn is_help(word: &[u8]) -> bool {
+    says(word, b"help") || says(word, b"--help") || says(word, b"-h")
+}
+
 /// Puts what is wrong with words that are no lawful command.
 fn put_word_fault<K: Sink>(words: &Argv, out: &mut Out<K>) -> Result<(), WriteFault>
     requires { IsOpen out.old }
     ensures { IfOk result (λ _. IsOpen out.new) }
 {
-    match word_fault(words) {
+    match fault_of_words(words) {
         None => Ok(()),
-        Some(WordFault::Command) => put_word(words, 0, "is no command", out),
-        Some(WordFault::NoValue(i)) => { put_word(words, i, NO_VALUE, out) }
-        Some(WordFault::Name(i)) => put_word(words, i, "has a name that this command hasn't", out),
+        Some(WordFault::Command) => put_no_command(words, out),
+        Some(WordFault::Name(i)) => put_no_setting(words, i, out),
         Some(WordFault::Twice(i)) => {
             put_word(words, i, "gives a value to a name that has one", out)
         }
         Some(WordFault::Digits(i)) => {
             put_word(words, i, "needs a whole number, of digits alone", out)
         }
-        Some(WordFault::Range(i, low, high)) => put_range(words, i, low, high, out),
+        Some(WordFault::Range(i, setting)) => put_range(words, i, &setting, out),
+        Some(WordFault::Missing(setting)) => put_missing(setting.name, out),
         Some(WordFault::Both) => put_sentence("`gap` and `ppm` don't stand together", out),
-        Some(WordFault::Missing(name)) => put_missing(name, out),
+    }
+}
+
+/// Puts that the first word is no command, and which one is near.
+fn put_no_command<K: Sink>(words: &Argv, out: &mut Out<K>) -> Result<(), WriteFault>
+    requires { IsOpen out.old }
+    ensures { IfOk result (λ _. IsOpen out.new) }
+{
+    if words.is_empty() {
+        return Ok(());
+    }
+    put_quoted(words.word(0), out)?;
+    out.put(b"is no command")?;
+    put_nearest(nearest_command(words.word(0)), out)
+}
+
+/// Puts that a word gives no value to a setting of the command, and which one is near.
+fn put_no_setting<K: Sink>(words: &Argv, i: usize, out: &mut Out<K>) -> Result<(), WriteFault>
+    requires { IsOpen out.old }
+    ensures { IfOk result (λ _. IsOpen out.new) }
+{
+    if i >= words.len() {
+        return Ok(());
+    }
+    if !words.word(i).contains(&b'=') {
+        return put_word(words, i, NO_VALUE, out);
+    }
+    put_quoted(words.word(i), out)?;
+    out.put(b"has a name that this command hasn't")?;
+    put_nearest(nearest_setting(words.word(0), words.word(i)), out)
+}
+
+/// Ends a line with the name that was meant, if one is near.
+fn put_nearest<K: Sink>(name: Option<&[u8]>, out: &mut Out<K>) -> Result<(), WriteFault>
+    requires { IsOpen out.old }
+    ensures { IfOk result (λ _. IsOpen out.new) }
+{
+    match name {
+        None => out.put(b"\n"),
+        Some(name) => out.put_pieces(&[
+            Piece::Text(b"; is `"),
+            Piece::Text(name),
+            Piece::Text(b"` meant?\n"),
+        ]),
     }
 }
 
@@ -120,12 +187,11 @@ fn printable(word: &[u8]) -> [u8; QUOTED] {
     shown
 }
 
-/// Puts a word whose number is out of its range.
+/// Puts a word whose number is out of the range of its setting.
 fn put_range<K: Sink>(
     words: &Argv,
     i: usize,
-    low: u64,
-    high: u64,
+    setting: &Setting,
     out: &mut Out<K>,
 ) -> Result<(), WriteFault>
     requires { IsOpen out.old }
@@ -137,9 +203,9 @@ fn put_range<K: Sink>(
     put_quoted(words.word(i), out)?;
     out.put_pieces(&[
         Piece::Text(b"is out of its range, which is from "),
-        Piece::Number(capped(low)),
+        Piece::Number(capped(setting.least)),
         Piece::Text(b" to "),
-        Piece::Number(capped(high)),
+        Piece::Number(capped(setting.greatest)),
         Piece::Text(b"\n"),
     ])
 }

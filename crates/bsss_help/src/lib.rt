@@ -6,11 +6,10 @@
 
 mod faults;
 mod help;
-mod settings;
+mod nearest;
 mod statuses;
 #[cfg(test)]
 mod tests;
 mod usage;
-mod words;
 
 pub use help::write_help;

@@ -22,9 +22,8 @@ pub(crate) fn sentence_of(status: Status) -> &'static str {
         Status::PoolFull => {
             "not solved: the room for open squares was used up. The answer stands: its site costs \
             at most `cost` less `bound` more than the best. `bsss resume budget=NUMBER \
-            pool=NUMBER` with a larger pool, up to 1000000, goes on from it; where that is too \
-            small, take a wider gap, or cut the region into strips (docs/GUIDE.md, \"When it \
-            isn't solved\")"
+            pool=NUMBER` with a larger pool, up to 1000000, goes on from it (docs/GUIDE.md, \"When \
+            it isn't solved\")"
         }
         Status::Budget => {
             "not solved: the budget was used up. The answer stands: its site costs at most `cost` \
@@ -56,3 +55,9 @@ pub(crate) fn sentence_of(status: Status) -> &'static str {
         _ => "",
     }
 }
+
+/// What can be done where the greatest pool was full.
+pub(crate) const GREATEST_POOL: &str =
+    "not solved: the room for open squares was used up, and it can't be larger. The answer stands: \
+    its site costs at most `cost` less `bound` more than the best. Take a wider gap, or cut the \
+    region into strips (docs/GUIDE.md, \"When it isn't solved\")";

@@ -28,10 +28,33 @@ fn help_of(alloc: Global, line: &str, status: Status) -> Result<MemSink, Fail> {
     }
 }
 
+/// Whether the bytes have these somewhere.
+fn contains(bytes: &[u8], wanted: &[u8]) -> bool {
+    for i in 0..bytes.len() {
+        if bytes[i..].starts_with(wanted) {
+            return true;
+        }
+    }
+    false
+}
+
 #[test]
 fn each_kind_of_bad_words(rt: HostRuntime) -> Result<(), Fail> {
     let cases = [
-        ("sovle gap=1", "bsss: `sovle` is no command\n"),
+        (
+            "sovle gap=1",
+            "bsss: `sovle` is no command; is `solve` meant?\n",
+        ),
+        ("polsh", "bsss: `polsh` is no command; is `polish` meant?\n"),
+        ("Solve", "bsss: `Solve` is no command; is `solve` meant?\n"),
+        (
+            "solve bugdet=1",
+            "bsss: `bugdet=1` has a name that this command hasn't; is `budget=` meant?\n",
+        ),
+        (
+            "resume worker=2",
+            "bsss: `worker=2` has a name that this command hasn't; is `workers=` meant?\n",
+        ),
         ("--version", "bsss: `--version` is no command\n"),
         (
             "solve budget = 5",
@@ -40,7 +63,7 @@ fn each_kind_of_bad_words(rt: HostRuntime) -> Result<(), Fail> {
         ),
         (
             "solve --gap=1",
-            "bsss: `--gap=1` has a name that this command hasn't\n",
+            "bsss: `--gap=1` has a name that this command hasn't; is `gap=` meant?\n",
         ),
         (
             "check gap=1",
@@ -93,7 +116,10 @@ fn each_kind_of_bad_words(rt: HostRuntime) -> Result<(), Fail> {
             "bsss: `a-word-of-sixty-one-bytes---------------------------------60...` (cut short) is \
             no command\n",
         ),
-        ("s\u{1b}olve~", "bsss: `s?olve~` is no command\n"),
+        (
+            "s\u{1b}olve~",
+            "bsss: `s?olve~` is no command; is `solve` meant?\n",
+        ),
         ("make seed=1", "bsss: `points=NUMBER` is missing\n"),
         ("resume pool=1", "bsss: `budget=NUMBER` is missing\n"),
         (
@@ -219,6 +245,25 @@ fn each_status_has_its_sentence(rt: HostRuntime) -> Result<(), Fail> {
         let sink = help_of(rt.alloc(), "solve", status)?;
         assert!(rt; sink.bytes().starts_with(first.as_bytes()), "{first}");
         assert!(rt; sink.bytes().ends_with(b"\n"), "{first}");
+    }
+    let pools = [
+        ("solve pool=1000000", false),
+        ("solve pool=999999", true),
+        ("resume budget=1 pool=1000000", false),
+        ("resume budget=1", true),
+    ];
+    for (line, larger) in pools {
+        let sink = help_of(rt.alloc(), line, Status::PoolFull)?;
+        assert_eq!(rt;
+            contains(sink.bytes(), b"with a larger pool"),
+            larger,
+            "{line}"
+        );
+        assert_eq!(rt;
+            contains(sink.bytes(), b"it can't be larger"),
+            !larger,
+            "{line}"
+        );
     }
     Ok(())
 }

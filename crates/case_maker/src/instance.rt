@@ -1,6 +1,7 @@
 //! Making an instance.
 
 ghost use Rattle.std.specs.Prelude.{◌≡◌, ◌≤◌, IfOk};
+ghost use Rattle.siting_definitions.specs.declared.TheConstants.{SEED_LIMIT};
 ghost use Rattle.siting_definitions.specs.declared.TheConstants.{POINT_LIMIT};
 ghost use Rattle.case_maker.specs.Made as cases;
 ghost use Rattle.case_maker.specs.Made.{made};
@@ -17,7 +18,7 @@ use std::alloc::{AllocError, Global};
 /// lengths. `NoMemory` where memory ran out.
 #[tactic(auto, unfolding(crate::specs::Made::made))]
 pub fn make_instance(alloc: Global, seed: u32, points: u32) -> Result<Instance, NoMemory>
-    requires seed { seed ≤ 2147483647 }
+    requires seed { seed ≤ SEED_LIMIT }
     requires few { 1 ≤ points }
     requires many { points ≤ POINT_LIMIT }
     ensures { IfOk result (λ i. i ≡ made seed points) }

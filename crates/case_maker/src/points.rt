@@ -1,7 +1,8 @@
 //! Drawing demand points.
 
-ghost use Rattle.std.specs.Prelude.{◌≡◌, ◌≤◌, ◌+◌, ◌*◌, ℕ, map, IfOk};
+ghost use Rattle.std.specs.Prelude.{◌≡◌, ◌≤◌, ◌+◌, ◌*◌, map, IfOk};
 ghost use Rattle.std.specs.List.{range_with_len};
+ghost use Rattle.siting_definitions.specs.declared.TheConstants.{SEED_LIMIT};
 ghost use Rattle.siting_definitions.specs.declared.TheConstants.{POINT_LIMIT, WEIGHT_LIMIT};
 ghost use Rattle.siting_definitions.specs.Instance.{weight};
 ghost use Rattle.case_maker.specs.Made.{state, draw, point_of_draws, made_point};
@@ -18,10 +19,10 @@ struct Generator {
 impl Generator {
     /// The next draw, 0 to 32767.
     fn draw(&mut self) -> u32
-        requires { self.old.state ≤ 2147483647 }
+        requires { self.old.state ≤ SEED_LIMIT }
         ensures state { self.new.state ≡ state self.old.state 1 }
         ensures value { result ≡ draw self.old.state 1 }
-        ensures small { self.new.state ≤ 2147483647 }
+        ensures small { self.new.state ≤ SEED_LIMIT }
         ensures size { result ≤ 32767 }
     {
         let state = (1103515245 * self.state as u64 + 12345) % 2147483648;
@@ -31,11 +32,11 @@ impl Generator {
 
     /// The point of the next three draws: its coordinates and its weight.
     fn point(&mut self) -> DemandPt
-        requires { self.old.state ≤ 2147483647 }
+        requires { self.old.state ≤ SEED_LIMIT }
         ensures state { self.new.state ≡ state self.old.state 3 }
         ensures value { result ≡ point_of_draws (draw self.old.state 1) (draw self.old.state 2)
             (draw self.old.state 3) }
-        ensures small { self.new.state ≤ 2147483647 }
+        ensures small { self.new.state ≤ SEED_LIMIT }
     {
         let x = 3 * self.draw();
         let y = 3 * self.draw();
@@ -46,7 +47,7 @@ impl Generator {
 
 /// The points that a seed makes.
 pub(crate) fn make_points(alloc: Global, seed: u32, count: u32) -> Result<Vec<DemandPt>, AllocError>
-    requires seed { seed ≤ 2147483647 }
+    requires seed { seed ≤ SEED_LIMIT }
     requires many { count ≤ POINT_LIMIT }
     ensures points { IfOk result (λ v. v.items ≡ map (made_point seed) (range_with_len 0 count)) }
     ensures weight { IfOk result (λ v. weight v.items ≤ WEIGHT_LIMIT) }

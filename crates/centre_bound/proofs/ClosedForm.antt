@@ -12,7 +12,7 @@ use Rattle.siting_definitions.specs.Bounds.{fine_radius}
 use Rattle.siting_definitions.proofs.Integers.{mul_add_ℤ, mul_assoc_ℤ, int_min-assoc}
 use Rattle.dyadic_square.proofs.Numbers.{two_halves}
 use Rattle.dist_bounds.specs.Limits.{longest}
-use Rattle.centre_bound.specs.Cut.{Vector, way_to, direction, is_straight, straight_way, straight_sum, other_sum, cut_of}
+use Rattle.centre_bound.specs.Cut.{Vector, direction, is_straight, straight_way, straight_sum, other_sum, cut_of}
 use Rattle.centre_bound.specs.Terms.{sum_over, term_at, slope_of}
 use Rattle.centre_bound.proofs.SumLemmas.{sums-moved}
 use Rattle.centre_bound.proofs.CutLemmas.{corner, sum_at-is, product_of_least}

@@ -1,7 +1,7 @@
 -- What the code computes of a point is what the definitions say of it.
-use Rattle.std.proofs.Common.{◌≡◌, ℕ, ◌+◌, ◌*◌, ◌^◌, ◌≤◌, ◌<◌, ℤ, pos, ◌+ℤ◌, ◌-ℤ◌, ◌*ℤ◌, ◌≤ℤ◌, ◌<ℤ◌, Bool, true, false, not, ◌&&◌, Option, None, Some, refl, sym, ap, ◌∙◌, FitsSigned, List, take, length, get_or, to_z, of_z, arith}
+use Rattle.std.proofs.Common.{◌≡◌, ℕ, ◌+◌, ◌*◌, ◌^◌, ◌≤◌, ◌<◌, ℤ, pos, ◌+ℤ◌, ◌-ℤ◌, ◌*ℤ◌, ◌≤ℤ◌, ◌<ℤ◌, Bool, true, false, not, refl, sym, ap, ◌∙◌, FitsSigned, List, take, length, get_or, to_z, of_z, arith}
 use mir.Syntax.{w64, w128}
-use Rattle.std.specs.Prelude.{unsigned_abs, int_lt, is_some, sum_by}
+use Rattle.std.specs.Prelude.{unsigned_abs, is_some, sum_by}
 use Rattle.std.proofs.Math.Nat.{mul-le-mul_left, mul-le-mul_right}
 use Rattle.std.proofs.lemmas.Bool.{cond-true, cond-false}
 use Rattle.std.proofs.lemmas.List.Sums.{sum_by_more, sum_by-take-le}
@@ -20,7 +20,7 @@ use Rattle.siting_definitions.proofs.Integers.{square_cancel_le, lt-int_lt, le-i
 use Rattle.dist_bounds.specs.Limits.{longest, longest_way}
 use Rattle.centre_bound.specs.declared.cut.Term.{Term}
 use Rattle.centre_bound.specs.Cut.{Vector, dot, way_to, share, direction, is_straight, straight_way}
-use Rattle.centre_bound.specs.Terms.{sum_over, term_at, slope_of}
+use Rattle.centre_bound.specs.Terms.{term_at, slope_of}
 use Rattle.centre_bound.specs.Sizes.{IsSmall}
 use Rattle.centre_bound.proofs.VectorLemmas.{direction_short, product_square}
 

@@ -1,6 +1,6 @@
 -- The cut of a square, and so its centre bound, is a cost that no rational point of the closed square falls below.
-use Rattle.std.proofs.Common.{◌≡◌, ℕ, ◌+◌, ◌*◌, ◌^◌, ◌≤◌, ◌<◌, ◌==◌, zero, suc, ℤ, pos, negsuc, ◌+ℤ◌, ◌-ℤ◌, ◌*ℤ◌, ◌≤ℤ◌, ◌<ℤ◌, Bool, true, false, cond, List, map, refl, sym, ap, subst, ◌∙◌, arith}
-use Rattle.std.specs.Prelude.{int_lt, int_le, unsigned_abs}
+use Rattle.std.proofs.Common.{◌≡◌, ℕ, ◌*◌, ◌^◌, ◌<◌, zero, suc, ℤ, pos, negsuc, ◌+ℤ◌, ◌*ℤ◌, ◌≤ℤ◌, ◌<ℤ◌, Bool, true, false, cond, map, refl, sym, ap, subst, ◌∙◌, arith}
+use Rattle.std.specs.Prelude.{int_lt, int_le}
 use Rattle.std.specs.Int.{int_max, int_min, int_div_euclid}
 use Rattle.std.proofs.lemmas.Bool.{and_parts, cond-true, cond-false, false≢true, lt-ltb}
 use Rattle.std.proofs.lemmas.Int.{clamps, by_lt_z}
@@ -9,11 +9,11 @@ use Rattle.siting_definitions.specs.declared.Kind.{Kind}
 use Rattle.siting_definitions.specs.declared.Kind.TheVariants.{Sum, Max}
 use Rattle.siting_definitions.specs.Integer.{least}
 use Rattle.siting_definitions.specs.Point.{Pt, Point}
-use Rattle.siting_definitions.specs.Instance.{DemandPt, Instance}
-use Rattle.siting_definitions.specs.Cost.{terms, total, total_of, CostAtLeast}
+use Rattle.siting_definitions.specs.Instance.{Instance}
+use Rattle.siting_definitions.specs.Cost.{total_of, CostAtLeast}
 use Rattle.siting_definitions.specs.Square.{Square, spans_closed, holds_closed, far_by, corners, centre_of}
 use Rattle.siting_definitions.specs.Bounds.{fine_radius, fine_of}
-use Rattle.siting_definitions.proofs.Integers.{mul_le_ℤ, mul_assoc_ℤ, le_trans_ℤ, int_lt-true, int_lt-false, int_le-true, le_refl_ℤ}
+use Rattle.siting_definitions.proofs.Integers.{mul_le_ℤ, mul_assoc_ℤ, int_lt-true, int_lt-false, int_le-true, le_refl_ℤ}
 use Rattle.siting_definitions.proofs.CostLemmas.{low_radii_bound}
 use Rattle.objectives.proofs.BoundLemmas.{fine_of-bounds, all_low}
 use Rattle.centre_bound.specs.Cut.{is_straight, straight_way, straight_sum, other_sum, cut_of, has_cut, centre_bound_of}

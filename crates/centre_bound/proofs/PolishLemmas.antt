@@ -1,5 +1,5 @@
 -- The least centre bound of the leaves of a finished tree.
-use Rattle.std.proofs.Common.{◌≡◌, ℕ, ◌+◌, ◌<◌, ◌≤◌, zero, suc, ℤ, ◌+ℤ◌, ◌≤ℤ◌, Bool, true, false, List, [], ◌∷◌, map, length, drop, get_or, Option, None, Some, refl, sym, ap, ◌∙◌, subst, ◌⊎◌, inl, inr, ⊎_elim, drop-cons, add-one, arith}
+use Rattle.std.proofs.Common.{◌≡◌, ℕ, ◌+◌, ◌<◌, ◌≤◌, zero, suc, ℤ, ◌≤ℤ◌, true, false, List, [], ◌∷◌, map, length, drop, get_or, Option, None, Some, refl, sym, ap, ◌∙◌, subst, ◌⊎◌, inl, inr, drop-cons, add-one, arith}
 use Rattle.std.specs.Prelude.{⊤, MatchOption, IsTrue, option_map}
 use Rattle.std.specs.Int.{int_min}
 use Rattle.std.proofs.lemmas.Bool.{cases_Bool, cond-true, cond-false}
@@ -10,15 +10,12 @@ use Rattle.siting_definitions.specs.declared.Mark.{Mark}
 use Rattle.siting_definitions.specs.Point.{Point}
 use Rattle.siting_definitions.specs.Instance.{Instance}
 use Rattle.siting_definitions.specs.Permitted.{permits}
-use Rattle.siting_definitions.specs.Cost.{CostAtLeast}
 use Rattle.siting_definitions.specs.Square.{Square, holds}
 use Rattle.siting_definitions.specs.Bounds.{fine_of}
 use Rattle.siting_definitions.specs.Excluded.{is_excluded}
 use Rattle.siting_definitions.specs.Sites.{root_of}
-use Rattle.siting_definitions.specs.Tree.{Tree, TreeSquare, preorder}
 use Rattle.siting_definitions.specs.Marks.{leaf_mark, SplitFits, MarkFits, MarksFit, lesser, bound_of, least_of, is_split, tally_of}
 use Rattle.siting_definitions.specs.Answer.{Answer, IsValid, upper_cost}
-use Rattle.siting_definitions.specs.Claims.{IsBound}
 use Rattle.siting_definitions.proofs.MarkLemmas.{shut_leaf, open_bound, split_bound, lesser-assoc, lesser-none}
 use Rattle.discard_log.specs.declared.node.Node.{Node}
 use Rattle.discard_log.specs.Nodes.{tree_square, mark_of}
@@ -27,7 +24,7 @@ use Rattle.dyadic_square.proofs.Trees.{held, total-held}
 use Rattle.dyadic_square.proofs.Tiling.{holds_closed_from_holds}
 use Rattle.answer_model.specs.Nodes.{nodes_of}
 use Rattle.answer_model.proofs.NodesLemmas.{valid-nodes}
-use Rattle.answer_model.proofs.ClaimsLemmas.{IsReached, reached_left, reached_right, fits_split, fits_leaf, IsUnderstood, IsBounded, understood}
+use Rattle.answer_model.proofs.ClaimsLemmas.{IsReached, reached_left, reached_right, fits_split, fits_leaf, IsBounded, understood}
 use Rattle.centre_bound.specs.Cut.{centre_bound_of}
 use Rattle.centre_bound.specs.Polished.{HasFineBound, HaveFineBounds, leaf_bound, least_centre_bound, IsPolished}
 use Rattle.centre_bound.proofs.CutLemmas.{centre_bound_of-bounds, fine_of-le}

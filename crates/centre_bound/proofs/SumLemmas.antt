@@ -1,6 +1,5 @@
 -- Sums over points: as the definitions write them, as a loop makes them, and of numbers that depend on a place by slopes.
-use Rattle.std.proofs.Common.{◌≡◌, ℕ, ◌+◌, ◌*◌, ◌≤◌, ◌<◌, ℤ, pos, ◌+ℤ◌, ◌*ℤ◌, ◌≤ℤ◌, Bool, true, false, cond, not, List, [], ◌∷◌, map, fold, filter, length, take, get_or, zero, suc, refl, sym, ap, ◌∙◌, add-one, arith}
-use Rattle.std.specs.Prelude.{unsigned_abs}
+use Rattle.std.proofs.Common.{◌≡◌, ℕ, ◌+◌, ◌<◌, ℤ, pos, ◌+ℤ◌, ◌*ℤ◌, ◌≤ℤ◌, Bool, true, false, cond, not, List, [], ◌∷◌, map, fold, filter, length, take, get_or, zero, suc, refl, sym, ap, ◌∙◌, add-one, arith}
 use borrow.Author.Differences.{ints, same_in}
 use Rattle.siting_definitions.specs.declared.Kind.TheVariants.{Sum}
 use Rattle.siting_definitions.specs.Instance.{DemandPt}

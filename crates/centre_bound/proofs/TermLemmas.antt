@@ -1,7 +1,7 @@
 -- What one point adds: with its slopes it is at most its weight times a radius that is low for the point of the plane.
-use Rattle.std.proofs.Common.{◌≡◌, ℕ, ◌+◌, ◌*◌, ◌^◌, ◌≤◌, ◌<◌, ℤ, pos, negsuc, zero, suc, ◌+ℤ◌, ◌-ℤ◌, ◌*ℤ◌, ◌≤ℤ◌, ◌<ℤ◌, Bool, true, false, cond, not, ◌&&◌, Option, None, Some, refl, sym, ap, subst, ◌∙◌, ◌⊎◌, inl, inr, arith}
-use Rattle.std.specs.Prelude.{unsigned_abs, int_lt, is_some, MatchOption, ⊤}
-use Rattle.std.proofs.lemmas.Bool.{cases_Bool, cond-true, cond-false, and_parts, true≢false, false≢true}
+use Rattle.std.proofs.Common.{◌≡◌, ℕ, ◌*◌, ◌^◌, ℤ, pos, negsuc, ◌+ℤ◌, ◌-ℤ◌, ◌*ℤ◌, ◌≤ℤ◌, ◌<ℤ◌, Bool, true, false, cond, not, Option, None, Some, refl, subst, arith}
+use Rattle.std.specs.Prelude.{unsigned_abs, int_lt, is_some}
+use Rattle.std.proofs.lemmas.Bool.{and_parts, false≢true}
 use borrow.Author.Differences.{up, down, ints, same_in}
 use Rattle.siting_definitions.specs.Point.{Place, Pt, Point}
 use Rattle.siting_definitions.specs.Instance.{DemandPt, place_of}

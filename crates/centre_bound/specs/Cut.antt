@@ -1,6 +1,6 @@
 -- The centre bound of a square. A straight cut takes, in place of a point's distance, its way along
 -- one whole vector of length at most 2 ^ 20: 2 ^ 20 times the distance is at least that.
-use Rattle.std.specs.Prelude.{ℕ, ◌*◌, ◌^◌, ◌==◌, nat_lt, ℤ, pos, ◌+ℤ◌, ◌-ℤ◌, ◌*ℤ◌, int_div, int_lt}
+use Rattle.std.specs.Prelude.{ℕ, ◌==◌, nat_lt, ℤ, pos, ◌+ℤ◌, ◌-ℤ◌, ◌*ℤ◌, int_div, int_lt}
 use Rattle.std.specs.Prelude.{Bool, false, not, ◌&&◌, if◌then◌else◌, is_some, List, map, filter}
 use Rattle.std.specs.Int.{int_div_euclid, int_max}
 use Rattle.siting_definitions.specs.declared.Kind.{Kind}

@@ -1,5 +1,5 @@
 -- How much a point adds at the most.
-use Rattle.std.specs.Prelude.{ℕ, ◌*◌, ◌≤◌, ℤ, unsigned_abs}
+use Rattle.std.specs.Prelude.{◌*◌, ◌≤◌, ℤ, unsigned_abs}
 use Rattle.dist_bounds.specs.Limits.{longest}
 use Rattle.centre_bound.specs.declared.cut.Term.{Term}
 

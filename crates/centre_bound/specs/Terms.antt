@@ -1,7 +1,7 @@
 -- What one pass over the points adds up for all four corners: the sum at the centre, and how fast
 -- it grows to the right and upwards.
-use Rattle.std.specs.Prelude.{ℕ, ℤ, pos, ◌+ℤ◌, ◌*ℤ◌, if◌then◌else◌, List, [], ◌∷◌}
-use Rattle.siting_definitions.specs.Point.{Place, Pt}
+use Rattle.std.specs.Prelude.{ℤ, pos, ◌+ℤ◌, ◌*ℤ◌, if◌then◌else◌, List, [], ◌∷◌}
+use Rattle.siting_definitions.specs.Point.{Pt}
 use Rattle.siting_definitions.specs.Instance.{DemandPt, place_of}
 use Rattle.siting_definitions.specs.Square.{Square, centre_of}
 use Rattle.siting_definitions.specs.Bounds.{fine_radius}

@@ -2,6 +2,7 @@
 
 ghost use Rattle.std.specs.Prelude.{◌≡◌, ◌*◌, pos, ◌≤ℤ◌, true};
 ghost use Rattle.std.specs.Int.{int_max};
+ghost use Rattle.siting_definitions.specs.declared.TheConstants.{WEIGHT_LIMIT};
 ghost use Rattle.siting_definitions.specs.Point.{Point};
 ghost use Rattle.siting_definitions.specs.Cost.{CostAtLeast};
 ghost use Rattle.siting_definitions.specs.Square.{holds_closed};
@@ -31,7 +32,7 @@ pub(crate) fn bound_from_fine(instance: &Instance, square: Square, fine: i64) ->
     requires { fine ≡ fine_of instance.now square }
     ensures value { result ≡ centre_bound_of instance.now square }
     ensures least { fine ≤ℤ result }
-    ensures most { result ≤ℤ int_max fine (pos (16000000 * longest)) }
+    ensures most { result ≤ℤ int_max fine (pos (WEIGHT_LIMIT * longest)) }
 {
     if square.level == 0 {
         return fine;
@@ -44,7 +45,7 @@ pub(crate) fn bound_from_fine(instance: &Instance, square: Square, fine: i64) ->
 
 /// The greater of a fine bound and a cut, which is no greater than a cost can be.
 fn greater_of(fine: i64, cut: i128) -> i64
-    requires { cut ≤ℤ pos (16000000 * longest) }
+    requires { cut ≤ℤ pos (WEIGHT_LIMIT * longest) }
     ensures { result ≡ int_max fine cut }
 {
     if cut > fine as i128 { cut as i64 } else { fine }

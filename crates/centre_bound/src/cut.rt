@@ -2,6 +2,7 @@
 
 ghost use Rattle.std.specs.Prelude.{◌≡◌, ◌+◌, ◌*◌, ◌^◌, ◌<◌, ◌≤◌, pos, ◌+ℤ◌, ◌-ℤ◌, ◌*ℤ◌, ◌≤ℤ◌};
 ghost use Rattle.std.specs.Prelude.{unsigned_abs, sum_by};
+ghost use Rattle.siting_definitions.specs.declared.TheConstants.{WEIGHT_LIMIT};
 ghost use Rattle.siting_definitions.specs.Instance as instances;
 ghost use Rattle.siting_definitions.specs.Instance.{DemandPt};
 ghost use Rattle.siting_definitions.specs.Square.{centre_of};
@@ -30,7 +31,7 @@ struct Term {
 pub(crate) fn cut(instance: &Instance, square: Square) -> i128
     requires { 0 < square.level }
     ensures value { result ≡ cut_of instance.now square }
-    ensures most { result ≤ℤ pos (16000000 * longest) }
+    ensures most { result ≤ℤ pos (WEIGHT_LIMIT * longest) }
 {
     let centre = square.centre();
     let sum = sum_of_terms(instance.points(), square, centre);
@@ -40,7 +41,7 @@ pub(crate) fn cut(instance: &Instance, square: Square) -> i128
 /// The least of what all points add at the corners of a square, in units of 1/2^20 cost units, from
 /// what they add at its centre. `half` is half the side, in grid units.
 fn least_at_corners(sum: Term, half: i64) -> i128
-    requires sum { IsSmall sum (pos 16000000) }
+    requires sum { IsSmall sum (pos WEIGHT_LIMIT) }
     requires least { pos 0 ≤ℤ half }
     requires most { half ≤ℤ pos (2 ^ 37) }
     ensures { result ≡ sum.at_centre
@@ -62,13 +63,13 @@ fn rise(half: i64, slopes: u64) -> i128
 
 /// The sum of the terms of these points.
 fn sum_of_terms(points: &[DemandPt], square: Square, centre: Pt) -> Term
-    requires weight { sum_by (λ (d : DemandPt). unsigned_abs d.w) points.now ≤ 16000000 }
+    requires weight { sum_by (λ (d : DemandPt). unsigned_abs d.w) points.now ≤ WEIGHT_LIMIT }
     requires level { 0 < square.level }
     requires centre { centre ≡ centre_of square }
     ensures at_centre { result.at_centre ≡ sum_over (term_at square centre) points.now }
     ensures right { result.right ≡ sum_over (λ d. (slope_of square d).x) points.now }
     ensures upper { result.upper ≡ sum_over (λ d. (slope_of square d).y) points.now }
-    ensures small { IsSmall result (pos 16000000) }
+    ensures small { IsSmall result (pos WEIGHT_LIMIT) }
 {
     let mut sum = Term {
         at_centre: 0,
@@ -84,8 +85,8 @@ fn sum_of_terms(points: &[DemandPt], square: Square, centre: Pt) -> Term
 /// The sum of two terms.
 #[inline(always)]
 fn add_terms(a: Term, b: Term) -> Term
-    requires a { IsSmall a (pos 16000000) }
-    requires b { IsSmall b (pos 16000000) }
+    requires a { IsSmall a (pos WEIGHT_LIMIT) }
+    requires b { IsSmall b (pos WEIGHT_LIMIT) }
     ensures at_centre { result.at_centre ≡ a.at_centre +ℤ b.at_centre }
     ensures right { result.right ≡ a.right +ℤ b.right }
     ensures upper { result.upper ≡ a.upper +ℤ b.upper }
@@ -106,7 +107,7 @@ fn term_of(square: Square, centre: Pt, point: DemandPt) -> Term
     ensures right { result.right ≡ (slope_of square point).x }
     ensures upper { result.upper ≡ (slope_of square point).y }
     ensures small { IsSmall result point.w }
-    ensures weight { unsigned_abs point.w ≤ 16000000 }
+    ensures weight { unsigned_abs point.w ≤ WEIGHT_LIMIT }
 {
     if is_straight(point) {
         straight_term(place_of(point), centre, point.w)
@@ -138,7 +139,7 @@ fn place_of(point: DemandPt) -> Place
 fn straight_term(place: Place, centre: Pt, w: i64) -> Term
     requires x { IsWithinSquares centre.x }
     requires y { IsWithinSquares centre.y }
-    requires w { unsigned_abs w ≤ 16000000 }
+    requires w { unsigned_abs w ≤ WEIGHT_LIMIT }
     ensures at_centre { result.at_centre
         ≡ w *ℤ dot (cuts.direction place centre) (cuts.way_to place centre) }
     ensures right { result.right ≡ w *ℤ (cuts.direction place centre).x }
@@ -163,7 +164,7 @@ fn product(w: i64, n: i64) -> i128
 
 /// A weight times a coordinate of a direction.
 fn slope(w: i64, n: i64) -> i64
-    requires w { unsigned_abs w ≤ 16000000 }
+    requires w { unsigned_abs w ≤ WEIGHT_LIMIT }
     requires n { unsigned_abs n ≤ 1048576 }
     ensures { result ≡ w *ℤ n }
 {

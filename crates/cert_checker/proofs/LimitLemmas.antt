@@ -1,7 +1,6 @@
 -- A check of bytes within the limit never finds them too long.
-use Rattle.std.proofs.Common.{◌≡◌, ℕ, ◌+◌, ◌^◌, ◌≤◌, Bool, true, false, List, [], ◌∷◌, length, Option, None, Some, Result, Ok, Err, sym, ap, subst}
+use Rattle.std.proofs.Common.{◌≡◌, ℕ, ◌+◌, ◌^◌, ◌≤◌, Bool, true, false, List, [], ◌∷◌, length, Option, None, Some, Result, Ok, Err, subst}
 use Rattle.std.specs.Prelude.{⊤}
-use Rattle.siting_definitions.specs.declared.Mark.{Mark}
 use Rattle.siting_definitions.specs.Instance.{Instance}
 use Rattle.siting_definitions.specs.Sites.{root_of}
 use Rattle.siting_definitions.specs.Answer.{Head}
@@ -14,13 +13,13 @@ use Rattle.certificate.specs.declared.reader.AnswerError.TheVariants.{Form, Inst
 use Rattle.certificate.specs.declared.reader.Item.{Item}
 use Rattle.certificate.specs.declared.reader.Item.TheVariants.{Node, End}
 use Rattle.certificate.specs.Forms.{version_form, gap_form, budget_form, pool_form, site_form, cost_form, bound_form, word_form, open_form, leases_form, root_form, item_form}
-use Rattle.certificate.specs.HeadReading.{answer_limit, coming_of, missing, in_answer, or_form, formed, part_of, instance_in, instance_part, or_bad_instance, if_canonical, limits_part, best_part, outcome_part, lines_after, head_reading, end_of}
+use Rattle.certificate.specs.HeadReading.{answer_limit, coming_of, missing, in_answer, or_form, formed, part_of, instance_in, instance_part, or_bad_instance, limits_part, best_part, outcome_part, lines_after, head_reading, end_of}
 use Rattle.cert_checker.specs.declared.faults.CheckFault.{CheckFault}
 use Rattle.cert_checker.specs.declared.faults.CheckError.{CheckError}
 use Rattle.cert_checker.specs.declared.faults.CheckError.TheVariants.{Fault, ReadFault as CheckReadFault, TooLong as CheckTooLong, NoMemory as CheckNoMemory}
 use Rattle.cert_checker.specs.declared.checking.Accepted.{Accepted}
 use Rattle.cert_checker.specs.Faults.{head_fault_of}
-use Rattle.cert_checker.specs.Checking.{Progress, error_of, unless_fault, read_ok, accepted_of, node_fault, take_mark, last_fault, at_end, at_item, items_of, after_head, checking, start_of, progress_after}
+use Rattle.cert_checker.specs.Checking.{Progress, error_of, unless_fault, read_ok, accepted_of, node_fault, last_fault, at_item, items_of, after_head, checking, start_of, progress_after}
 
 -- ---- the head
 -- what is to come ends

@@ -2,6 +2,7 @@
 
 ghost use Rattle.std.specs.Prelude.{◌≡◌, ◌↔◌, ℕ, ◌+◌, ◌<◌, ◌≤◌, ◌==◌, List, ◌++◌, length, map};
 ghost use Rattle.std.specs.Prelude.{count_by, None, Ok, Err};
+ghost use Rattle.siting_definitions.specs.declared.TheConstants.{CHECK_LIMIT};
 ghost use Rattle.siting_definitions.specs.declared.Mark.{Mark};
 ghost use Rattle.siting_definitions.specs.Square.{Square};
 ghost use Rattle.siting_definitions.specs.Marks.{Tally, tally_of, MarkFits, is_split};
@@ -9,6 +10,7 @@ ghost use Rattle.siting_definitions.specs.Answer.{Answer, Head, upper_cost, Head
 ghost use Rattle.siting_definitions.specs.Answer.{IsValid};
 ghost use Rattle.siting_definitions.specs.AnswerText.{answer_text};
 ghost use Rattle.instance_text.specs.Reading.{and_then};
+ghost use Rattle.port_io.specs.Bytes.{piece_size};
 ghost use Rattle.line_stream.specs.Coming.{Coming};
 ghost use Rattle.certificate.specs.Forms.{item_form};
 ghost use Rattle.answer_model.specs.Tally.{tally_sum};
@@ -84,7 +86,7 @@ pub fn cut_answers_are_refused()
 
 /// A check reads at most 4,096 bytes past the 2^30 that an answer may have.
 pub fn a_check_reads_one_piece_past_its_limit()
-    ensures { (got : List ℕ) → IsNeededSoFar got → length got ≤ 1073741824 + 4096 }
+    ensures { (got : List ℕ) → IsNeededSoFar got → length got ≤ CHECK_LIMIT + piece_size }
 {}
 
 /// The number of each fault.

@@ -1,6 +1,6 @@
 //! The faults of a mark.
 
-ghost use Rattle.std.specs.Prelude.{◌≡◌, ℤ, ◌+ℤ◌, int_le, not, ◌||◌};
+ghost use Rattle.std.specs.Prelude.{◌≡◌, ◌+ℤ◌, int_le, not, ◌||◌};
 ghost use Rattle.siting_definitions.specs.Answer.{upper_cost};
 ghost use Rattle.siting_definitions.specs.Bounds.{fine_of};
 ghost use Rattle.siting_definitions.specs.Sites as sites;

@@ -1,5 +1,5 @@
 -- The reading of the lines of the instance.
-use Rattle.std.specs.Prelude.{◌≡◌, ℕ, ◌+◌, ◌≤◌, Bool, List, ◌∷◌, [], ◌++◌, length, codes, Option}
+use Rattle.std.specs.Prelude.{◌≡◌, ℕ, ◌+◌, Bool, List, ◌∷◌, [], ◌++◌, length, codes, Option}
 use Rattle.std.specs.Prelude.{Some, None, option_and_then, bytes_eq, Result, Ok, Err, ⊤}
 use Rattle.port_io.specs.Bytes.{told}
 use Rattle.line_stream.specs.Input.{bytes_of}
@@ -10,7 +10,7 @@ use Rattle.instance_text.specs.Reading.{reading}
 use Rattle.certificate.specs.declared.reader.AnswerError.{AnswerError}
 use Rattle.certificate.specs.declared.reader.AnswerError.TheVariants.{Form, Instance as BadInstance}
 use Rattle.certificate.specs.declared.reader.AnswerError.TheVariants.{TooLong, ReadFault, NoMemory}
-use Rattle.certificate.specs.HeadReading.{answer_limit, answer_line, missing, part_of, if_canonical}
+use Rattle.certificate.specs.HeadReading.{answer_line, missing, part_of, if_canonical}
 use Rattle.certificate.specs.AnswerReading.{ReadInMemory}
 
 -- how many bytes of the instance are kept

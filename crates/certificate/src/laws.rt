@@ -1,12 +1,12 @@
 //! Laws of the texts of answers.
 
-ghost use Rattle.std.specs.Prelude.{◌≡◌, ◌↔◌, ◌+◌, ◌*◌, ◌<◌, ◌≤◌, ℕ, true, false, List, [], ◌++◌};
+ghost use Rattle.std.specs.Prelude.{◌≡◌, ◌↔◌, ◌+◌, ◌*◌, ◌<◌, ◌≤◌, ℕ, true, List};
 ghost use Rattle.std.specs.Prelude.{length, codes, Some, Ok, All};
 ghost use Rattle.text_lines.specs.Words.{line_bytes};
+ghost use Rattle.siting_definitions.specs.declared.TheConstants.{NODE_LIMIT, LOAD_LIMIT};
 ghost use Rattle.siting_definitions.specs.declared.Mark.{Mark};
 ghost use Rattle.siting_definitions.specs.Answer.{Answer, Head, IsHead, IsMark, IsValid};
 ghost use Rattle.siting_definitions.specs.AnswerText.{answer_text, mark_line};
-ghost use Rattle.line_stream.specs.Input.{input_of, bytes_of};
 ghost use Rattle.line_stream.specs.Coming.{Coming};
 ghost use Rattle.line_stream.specs.Feeds.{are_feedless};
 ghost use Rattle.certificate.specs.declared.reader.Item.TheVariants.{Node, End};
@@ -39,8 +39,8 @@ pub fn texts_read_back()
 /// A valid answer has at most 4,000,001 marks, and its text fewer than 100,000,000 bytes: at most
 /// 310,000, and 23 more for each mark.
 pub fn valid_texts_are_short()
-    ensures marks { (a : Answer) → IsValid a → length a.marks ≤ 4000001 }
-    ensures bytes { (a : Answer) → IsValid a → length (answer_text a) < 100000000 }
+    ensures marks { (a : Answer) → IsValid a → length a.marks ≤ NODE_LIMIT }
+    ensures bytes { (a : Answer) → IsValid a → length (answer_text a) < LOAD_LIMIT }
     ensures by_marks { (a : Answer) → IsHead a.head → All IsMark a.marks
         → length (answer_text a) ≤ 310000 + 23 * length a.marks }
 {}

@@ -1,12 +1,14 @@
 -- The order of the words after the command doesn't count.
-use Rattle.std.proofs.Common.{◌≡◌, ℕ, ◌+◌, ◌^◌, ◌==◌, codes, Bool, true, false, cond, List, [], ◌∷◌, Option, None, Some, refl, sym, ap, ◌∙◌, arith}
+use Rattle.std.proofs.Common.{◌≡◌, ℕ, ◌+◌, ◌==◌, Bool, true, false, cond, if◌then◌else◌, option_and_then, List, [], ◌∷◌, Option, None, Some, refl, sym, ap, ◌∙◌, arith}
 use Rattle.std.specs.Prelude.{IsPermutation, bytes_eq, filter_map}
 use Rattle.std.specs.List.{sum_by, list_all, cons_option}
 use Rattle.std.proofs.lemmas.List.Sums.{sum_by-cons}
 use Rattle.std.proofs.lemmas.List.Sorted.{sum_by-IsPermutation}
 use Rattle.std.proofs.lemmas.Slice.Eq.{bytes_eq-Decides}
-use Rattle.command_line.specs.Settings.{value_in, setting_of, setting, has_only, settings_of}
-use Rattle.command_line.specs.Words.{solve_of, check_of, resume_of, polish_of, near_of, make_of, trial_of, command_of}
+use Rattle.command_line.specs.declared.settings.Otherwise.TheVariants.{Default, Unsaid, Required}
+use Rattle.command_line.specs.Settings.{Rule, value_in, said_by, said, has_only, settings_of, rules_of}
+use Rattle.command_line.specs.Settings.{gap_rule, ppm_rule, budget_rule, pool_rule, workers_rule, slack_rule, depth_rule, limit_rule, seed_rule, points_rule}
+use Rattle.command_line.specs.Words.{solve_of, check_of, resume_of, near_of, make_of, trial_of, command_with, command_of}
 
 -- ---- lists in another order
 -- the two lists have the same sums, whatever number their elements have
@@ -40,8 +42,8 @@ list_all-failures test [] = refl
 list_all-failures test (x ∷ xs) = grind (arith, list_all-failures test xs, sum_by-cons (λ x. cond (test x) 0 1) x xs)
 
 -- the order of words doesn't change whether they all give values to these names
-same_names : (xs ys : List (List ℕ)) → IsPermutation xs ys → (names : List (List ℕ)) → has_only names xs ≡ has_only names ys
-same_names xs ys p names = same_all xs ys p _
+same_names : (xs ys : List (List ℕ)) → IsPermutation xs ys → (rules : List Rule) → has_only rules xs ≡ has_only rules ys
+same_names xs ys p rules = same_all xs ys p _
   where
     same_all : {X : Type 0} (xs ys : List X) → IsPermutation xs ys → (test : X → Bool) → list_all test xs ≡ list_all test ys
     same_all xs ys p test =
@@ -65,67 +67,55 @@ one_value v w same =
     by_test false e one = absurd (omega (arith, one, ap once e))
 
 -- the values of a name say the same in another order
-same_setting_of : (low high : ℕ) (vs ws : List (List ℕ)) → SameSums vs ws → setting_of low high vs ≡ setting_of low high ws
-same_setting_of low high [] [] same = refl
-same_setting_of low high [] (w ∷ ws) same = absurd (omega (arith, same (λ u. 1), sum_by-cons (λ (u : List ℕ). 1) w ws))
-same_setting_of low high (v ∷ vs) [] same = absurd (omega (arith, same (λ u. 1), sum_by-cons (λ (u : List ℕ). 1) v vs))
-same_setting_of low high (v ∷ []) (w ∷ []) same = ap (λ u. setting_of low high (u ∷ [])) (one_value v w same)
-same_setting_of low high (v ∷ []) (w ∷ x ∷ ws) same =
+same_said_by : (r : Rule) (vs ws : List (List ℕ)) → SameSums vs ws → said_by r vs ≡ said_by r ws
+same_said_by r [] [] same = refl
+same_said_by r [] (w ∷ ws) same =
+    absurd (omega (arith, same (λ u. 1), sum_by-cons (λ (u : List ℕ). 1) w ws))
+same_said_by r (v ∷ vs) [] same =
+    absurd (omega (arith, same (λ u. 1), sum_by-cons (λ (u : List ℕ). 1) v vs))
+same_said_by r (v ∷ []) (w ∷ []) same = ap (λ u. said_by r (u ∷ [])) (one_value v w same)
+same_said_by r (v ∷ []) (w ∷ x ∷ ws) same =
     let f : List ℕ → ℕ = λ u. 1 in
     absurd (omega (arith, same f, sum_by-cons f v [], sum_by-cons f w (x ∷ ws), sum_by-cons f x ws))
-same_setting_of low high (v ∷ u ∷ vs) (w ∷ []) same =
+same_said_by r (v ∷ u ∷ vs) (w ∷ []) same =
     let f : List ℕ → ℕ = λ u. 1 in
     absurd (omega (arith, same f, sum_by-cons f w [], sum_by-cons f v (u ∷ vs), sum_by-cons f u vs))
-same_setting_of low high (v ∷ u ∷ vs) (w ∷ x ∷ ws) same = refl
+same_said_by r (v ∷ u ∷ vs) (w ∷ x ∷ ws) same = refl
 
-same_setting : (xs ys : List (List ℕ)) → IsPermutation xs ys → (name : List ℕ) (low high : ℕ) → setting name low high xs ≡ setting name low high ys
-same_setting xs ys p name low high =
-    same_setting_of low high (filter_map (value_in name) xs) (filter_map (value_in name) ys) (same_values (value_in name) xs ys p)
-
-same_settings : (xs ys : List (List ℕ)) → IsPermutation xs ys → settings_of xs ≡ settings_of ys
-unfolding settings_of
-same_settings xs ys p =
-    let same = same_setting xs ys p in
-    rw (same (codes "gap=") 0 (2 ^ 62), same (codes "ppm=") 0 1000000, same (codes "budget=") 0 1000000, same (codes "pool=") 1 1000000, same (codes "workers=") 1 64) refl
+same_said : (xs ys : List (List ℕ)) → IsPermutation xs ys → (r : Rule) → said r xs ≡ said r ys
+same_said xs ys p r =
+    same_said_by r (filter_map (value_in r.name) xs) (filter_map (value_in r.name) ys)
+    (same_values (value_in r.name) xs ys p)
 
 -- ---- commands
-same_solve : (xs ys : List (List ℕ)) → IsPermutation xs ys → solve_of xs ≡ solve_of ys
-unfolding solve_of
-same_solve xs ys p = rw (same_names xs ys p, same_settings xs ys p) refl
-
-same_check : (xs ys : List (List ℕ)) → IsPermutation xs ys → check_of xs ≡ check_of ys
-unfolding check_of
-same_check xs ys p = rw (same_names xs ys p, same_setting xs ys p (codes "workers=") 1 64) refl
-
-same_resume : (xs ys : List (List ℕ)) → IsPermutation xs ys → resume_of xs ≡ resume_of ys
-unfolding resume_of
-same_resume xs ys p =
-    let same = same_setting xs ys p in
-    rw (same_names xs ys p, same (codes "budget=") 0 1000000, same (codes "pool=") 1 1000000, same (codes "workers=") 1 64) refl
-
-same_polish : (xs ys : List (List ℕ)) → IsPermutation xs ys → polish_of xs ≡ polish_of ys
-unfolding polish_of
-same_polish xs ys p = rw (same_names xs ys p) refl
-
-same_near : (xs ys : List (List ℕ)) → IsPermutation xs ys → near_of xs ≡ near_of ys
-unfolding near_of
-same_near xs ys p =
-    let same = same_setting xs ys p in
-    rw (same_names xs ys p, same (codes "slack=") 0 (2 ^ 60), same (codes "depth=") 0 16, same (codes "limit=") 1 1000000) refl
-
-same_make : (xs ys : List (List ℕ)) → IsPermutation xs ys → make_of xs ≡ make_of ys
-unfolding make_of
-same_make xs ys p =
-    let same = same_setting xs ys p in
-    rw (same_names xs ys p, same (codes "seed=") 0 2147483647, same (codes "points=") 1 4096) refl
-
-same_trial : (xs ys : List (List ℕ)) → IsPermutation xs ys → trial_of xs ≡ trial_of ys
-unfolding trial_of
-same_trial xs ys p =
-    let same = same_setting xs ys p in
-    rw (same_names xs ys p, same (codes "seed=") 0 2147483647, same (codes "points=") 1 4096, same_settings xs ys p) refl
+same_command_with : (name : List ℕ) (xs ys : List (List ℕ)) → IsPermutation xs ys
+    → command_with name xs ≡ command_with name ys
+unfolding command_with solve_of check_of resume_of near_of make_of trial_of settings_of
+same_command_with name xs ys p =
+    let same = same_said xs ys p in
+    rw (
+      same gap_rule,
+      same ppm_rule,
+      same (budget_rule (Default 100000)),
+      same (budget_rule Required),
+      same (pool_rule (Default 100000)),
+      same (pool_rule Unsaid),
+      same workers_rule,
+      same slack_rule,
+      same depth_rule,
+      same limit_rule,
+      same seed_rule,
+      same points_rule,
+    ) refl
 
 -- the words after a name are the same command in another order
-pub same_command : (name : List ℕ) (xs ys : List (List ℕ)) → IsPermutation xs ys → command_of (name ∷ xs) ≡ command_of (name ∷ ys)
+pub same_command : (name : List ℕ) (xs ys : List (List ℕ)) → IsPermutation xs ys
+    → command_of (name ∷ xs) ≡ command_of (name ∷ ys)
 unfolding command_of
-same_command name xs ys p = rw (same_solve xs ys p, same_check xs ys p, same_resume xs ys p, same_polish xs ys p, same_near xs ys p, same_make xs ys p, same_trial xs ys p) refl
+same_command name xs ys p = by_rules (rules_of name)
+  where
+    by_rules : (rules : Option (List Rule))
+        → option_and_then (λ (rs : List Rule). if has_only rs xs then command_with name xs else None) rules
+        ≡ option_and_then (λ (rs : List Rule). if has_only rs ys then command_with name ys else None) rules
+    by_rules None = refl
+    by_rules (Some rs) = rw (same_names xs ys p rs, same_command_with name xs ys p) refl

@@ -1,13 +1,17 @@
 -- The ranges of a command's numbers, and which command wants a team.
-use Rattle.std.specs.Prelude.{◌≡◌, ℕ, ◌^◌, ◌≤◌, nat_le, Bool, false, ℤ, pos, ◌≤ℤ◌, ⊤}
+use Rattle.std.specs.Prelude.{◌≡◌, ℕ, ◌≤◌, nat_le, Bool, false, ℤ, pos, ◌≤ℤ◌, ⊤}
 use Rattle.std.specs.Prelude.{Option, Some, IfSome}
 use Rattle.siting_definitions.specs.declared.TheConstants.{GAP_LIMIT, PPM_LIMIT, BUDGET_LIMIT}
 use Rattle.siting_definitions.specs.declared.TheConstants.{POOL_LIMIT, WORKER_LIMIT, SEED_LIMIT}
-use Rattle.siting_definitions.specs.declared.TheConstants.{POINT_LIMIT}
+use Rattle.siting_definitions.specs.declared.TheConstants.{POINT_LIMIT, SLACK_LIMIT, DEPTH_LIMIT}
+use Rattle.siting_definitions.specs.declared.TheConstants.{SQUARE_LIMIT}
 use Rattle.siting_definitions.specs.declared.GapRule.{GapRule}
 use Rattle.siting_definitions.specs.declared.GapRule.TheVariants.{Fixed, Ppm}
 use Rattle.command_line.specs.declared.command.Settings.{Settings}
 use Rattle.command_line.specs.declared.command.Command.{Command}
+use Rattle.command_line.specs.declared.settings.Setting.{Setting}
+use Rattle.command_line.specs.declared.settings.Otherwise.{Otherwise}
+use Rattle.command_line.specs.declared.settings.Otherwise.TheVariants.{Default}
 use Rattle.command_line.specs.declared.command.Command.TheVariants.{Solve, Check, Resume}
 use Rattle.command_line.specs.declared.command.Command.TheVariants.{Polish, Near, Make, Trial}
 
@@ -36,9 +40,9 @@ pub record IsResuming (budget : ℕ) (pool : Option ℕ) (workers : ℕ) : Type 
 
 -- the ranges of the numbers of a near set
 pub record IsNearing (slack : ℤ) (depth limit : ℕ) : Type 0 where
-  pub slack_range : (pos 0 ≤ℤ slack) × (slack ≤ℤ pos (2 ^ 60))
-  pub depth_most : depth ≤ 16
-  pub limit_range : (1 ≤ limit) × (limit ≤ 1000000)
+  pub slack_range : (pos 0 ≤ℤ slack) × (slack ≤ℤ pos SLACK_LIMIT)
+  pub depth_most : depth ≤ DEPTH_LIMIT
+  pub limit_range : (1 ≤ limit) × (limit ≤ SQUARE_LIMIT)
 
 -- the numbers of a command are in their ranges, and a trial has one worker
 abbrev pub IsCommand : Command → Type 0
@@ -56,3 +60,12 @@ has_team (Some (Solve s)) = nat_le 2 s.workers
 has_team (Some (Check workers)) = nat_le 2 workers
 has_team (Some (Resume budget pool workers)) = nat_le 2 workers
 has_team _ = false
+
+-- a default is in the range
+abbrev pub OtherwiseWithin : ℕ → ℕ → Otherwise → Type 0
+OtherwiseWithin least greatest (Default n) = (least ≤ n) × (n ≤ greatest)
+OtherwiseWithin least greatest _ = ⊤
+
+-- the number of a setting that no word says is in its range
+abbrev pub IsWithin : Setting → Type 0
+IsWithin s = OtherwiseWithin s.least s.greatest s.otherwise

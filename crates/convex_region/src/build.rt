@@ -1,9 +1,8 @@
 //! Building polygons.
 
-ghost use Rattle.std.specs.Prelude.{◌≡◌, ◌<◌, ◌≤◌, ◌↔◌, ℕ, ℤ, pos, ◌+ℤ◌, ◌-ℤ◌};
-ghost use Rattle.std.specs.Prelude.{◌*ℤ◌, ◌++◌, length, map, take, drop, reverse};
+ghost use Rattle.std.specs.Prelude.{◌≡◌, ◌<◌, ◌≤◌, ◌↔◌, ℕ, ◌-ℤ◌};
+ghost use Rattle.std.specs.Prelude.{◌*ℤ◌, ◌++◌, length, take, drop, reverse};
 ghost use Rattle.std.specs.Prelude.{IsTrue, IfOk, IfSome, IfNone, All, unsigned_abs};
-ghost use Rattle.siting_definitions.specs.Integer.{least, greatest};
 ghost use Rattle.siting_definitions.specs.Point as points;
 ghost use Rattle.siting_definitions.specs.Polygon as polygons;
 ghost use Rattle.siting_definitions.specs.Polygon.{vertex};

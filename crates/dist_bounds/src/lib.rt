@@ -4,7 +4,7 @@
 //! All are exact, in grid units squared, of which 2^32 make a square length.
 #![tactic(auto)]
 
-ghost use Rattle.std.specs.Prelude.{◌≡◌, ◌*◌, ◌+◌, ◌^◌, ◌<◌, ◌≤◌, pos};
+ghost use Rattle.std.specs.Prelude.{◌≡◌, ◌*◌, ◌+◌, ◌^◌, ◌≤◌, pos};
 ghost use Rattle.std.specs.Prelude.{◌-ℤ◌, ◌*ℤ◌, ◌≤ℤ◌, unsigned_abs, max};
 ghost use Rattle.std.specs.Prelude.{true, false, if◌then◌else◌};
 ghost use Rattle.std.specs.Int.{int_max};

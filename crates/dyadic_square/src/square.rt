@@ -1,6 +1,6 @@
 //! A square, its parts, and its place in the order of a tree.
 
-ghost use Rattle.std.specs.Prelude.{◌≡◌, ℕ, ◌-◌, ◌^◌, ◌<◌, ◌≤◌, pos, ◌≤ℤ◌, ◌&&◌, int_le, int_lt};
+ghost use Rattle.std.specs.Prelude.{◌≡◌, ◌-◌, ◌^◌, ◌<◌, ◌≤◌, pos, ◌≤ℤ◌, ◌&&◌, int_le, int_lt};
 ghost use Rattle.siting_definitions.specs.Point.{point_of};
 ghost use Rattle.siting_definitions.specs.Square as squares;
 ghost use Rattle.siting_definitions.specs.Square.{IsSquare, centre_of, corner_of};

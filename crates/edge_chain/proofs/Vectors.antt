@@ -38,10 +38,6 @@ pub factor_above : (a b : ℤ) → pos 0 <ℤ (a *ℤ b) → pos 0 <ℤ a → po
 factor_above a b h k =
     by_lt_z (pos 0) b (λ above. above) (λ not_. let e = product_nonpos_right a b (omega (arith, ints)) not_ in absurd (omega (arith, ints, e)))
 
-pub factor_below : (a b : ℤ) → (a *ℤ b) <ℤ pos 0 → pos 0 <ℤ a → b <ℤ pos 0
-factor_below a b h k =
-    by_lt_z b (pos 0) (λ below. below) (λ not_. let e = product_nonneg a b (omega (arith, ints)) not_ in absurd (omega (arith, ints, e)))
-
 pub factor_nonneg : (a b : ℤ) → pos 0 ≤ℤ (a *ℤ b) → pos 0 <ℤ a → pos 0 ≤ℤ b
 factor_nonneg a b h k =
     by_lt_z b (pos 0) (λ below. let e = product_below_right a b k below in absurd (omega (arith, ints, e))) (λ le. le)

@@ -1,6 +1,6 @@
 //! Laws of chains. Each is a clause of a function that does nothing.
 
-ghost use Rattle.std.specs.Prelude.{All, ◌≡◌, ◌++◌, List, map, pos, ◌+ℤ◌, neg_ℤ, ◌<ℤ◌, ℤ, true, false, ◌&&◌, IsPermutation};
+ghost use Rattle.std.specs.Prelude.{All, ◌≡◌, ◌++◌, List, map, pos, ◌+ℤ◌, neg_ℤ, ◌<ℤ◌, true, false, ◌&&◌};
 ghost use Rattle.std.specs.List.{list_any};
 ghost use Rattle.siting_definitions.specs.Point.{Place, Point, side};
 ghost use Rattle.siting_definitions.specs.Polygon.{covers, covers_inside};

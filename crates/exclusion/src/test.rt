@@ -1,6 +1,6 @@
 //! The exclusion test.
 
-ghost use Rattle.std.specs.Prelude.{◌≡◌, ◌<◌, ℕ, true, pos, int_lt, length};
+ghost use Rattle.std.specs.Prelude.{◌≡◌, ◌<◌, true, pos, int_lt, length};
 ghost use Rattle.std.specs.List.{list_all, list_any};
 ghost use Rattle.siting_definitions.specs.Point.{point_of};
 ghost use Rattle.siting_definitions.specs.Point as points;

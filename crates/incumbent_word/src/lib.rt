@@ -3,7 +3,7 @@
 #![tactic(auto)]
 
 ghost use Rattle.std.specs.Prelude.{◌≡◌, ℕ, ◌-◌, ◌^◌, ◌<◌, ◌≤◌, ℤ, pos, ◌+ℤ◌, ◌<ℤ◌, ◌≤ℤ◌};
-ghost use Rattle.std.specs.Prelude.{◌↔◌, Option, Some, None, IsNone, IfSome, FitsSigned};
+ghost use Rattle.std.specs.Prelude.{◌↔◌, Some, None, IsNone, IfSome, FitsSigned};
 ghost use Rattle.std.specs.Int.{w64};
 ghost use Rattle.incumbent_word.specs.Word.{word_of, word_in, number_in};
 

@@ -1,7 +1,6 @@
 //! The numbers of a line, each with its range.
 
 ghost use Rattle.std.specs.Prelude.{◌≡◌};
-ghost use Rattle.std.specs.List.{list_all};
 ghost use Rattle.siting_definitions.specs.declared.TheConstants.{COORDINATE_LIMIT, WEIGHT_LIMIT};
 ghost use Rattle.text_lines.specs.Lines.{fields_of};
 ghost use Rattle.text_lines.specs.Numbers.{HasSize};

@@ -1,8 +1,7 @@
 //! The point and the kind of a line.
 
-ghost use Rattle.std.specs.Prelude.{◌≡◌, None, Option, ℤ, pos, ◌≢◌, ◌≤◌};
-ghost use Rattle.std.specs.Prelude.{◌≤ℤ◌, unsigned_abs, MatchOption, ⊤};
-ghost use Rattle.siting_definitions.specs.Instance.{IsCoordinate, IsDemandPt};
+ghost use Rattle.std.specs.Prelude.{◌≡◌, None, pos};
+ghost use Rattle.std.specs.Prelude.{◌≤ℤ◌, MatchOption, ⊤};
 ghost use Rattle.siting_definitions.specs.declared.TheConstants.{COORDINATE_LIMIT};
 ghost use Rattle.siting_definitions.specs.declared.TheConstants.{WEIGHT_LIMIT, CUTOFF_LIMIT};
 ghost use Rattle.text_lines.specs.Lines.{fields_of};

@@ -2,7 +2,7 @@
 use Rattle.std.proofs.Common.{◌≡◌, ℕ, suc, ◌+◌, ◌≤◌, ◌<◌, min, eqb, Bool, true, false, cond, not, List, [], ◌∷◌, length, get_or, take, drop, refl, sym, ap, ◌∙◌, arith, nat_lt}
 use Rattle.std.specs.List.{list_all, prefix_len}
 use Rattle.std.proofs.lemmas.Bool.{eqb-true}
-use Rattle.std.proofs.lemmas.List.{drop-drop, length-take, get_or-take, take-take, drop_more}
+use Rattle.std.proofs.lemmas.List.{length-take, get_or-take, take-take, drop_more}
 use Rattle.std.proofs.lemmas.List.Sums.{prefix_len-le-length, prefix_len_stops}
 use Rattle.line_stream.specs.Feeds.{is_no_feed}
 
@@ -55,14 +55,3 @@ front_all bytes most k n e same h =
     let least : n ≤ length (take k bytes) = rw e (prefix_len-le-length is_no_feed (take k bytes)) in
     let long : length (take k bytes) ≡ min k (length bytes) = length-take k bytes in
     grind arith
-
--- what is still held after so many bytes, and a line feed where one came, were given
-pub rest_given : (bytes : List ℕ) (at n k : ℕ) (found : Bool) → k ≡ cond found 1 0
-    → (found ≡ true → drop n (drop at bytes) ≡ 10 ∷ drop (n + 1) (drop at bytes))
-    → drop n (drop at bytes) ≡ cond found (10 ∷ drop (at + (n + k)) bytes) (drop (at + (n + k)) bytes)
-rest_given bytes at n k true step feed =
-    let one : n + k ≡ n + 1 = ap (λ j. n + j) step in
-    rw one (feed refl ∙ ap (λ xs. 10 ∷ xs) (drop-drop (n + 1) at bytes))
-rest_given bytes at n k false step feed =
-    let same : n + k ≡ n = omega arith in
-    rw same (drop-drop n at bytes)

@@ -67,8 +67,8 @@ pub record FrontRead (limit : ℕ) (before after : LinesState) (feed : Bool) : T
       ≡ (if feed then Ok (front, coming_in more limit after rest)
       else after_front front (next_line (coming_in more limit after rest)))
   pub some : feed ≡ false → 0 < length before.ahead → before.read < limit
-      → length before.kept < 4096 → 0 < length front
-  pub few : length after.kept ≤ 4096
+      → length before.kept < piece_size → 0 < length front
+  pub few : length after.kept ≤ piece_size
   pub count : before.read + (length front + (if feed then 1 else 0)) ≡ after.read
   pub within : after.read ≤ limit
   pub held : taken after ≡ taken before
@@ -119,7 +119,7 @@ RestRead limit before after (Err error) = IsLineStopped limit next_line before a
 
 -- a line was kept, or is a long one and nothing is kept
 abbrev pub IsKept : List ℕ → List ℕ → Type 0
-IsKept kept line = (kept ≡ line) ⊎ ((kept ≡ []) × (4096 ≤ length line))
+IsKept kept line = (kept ≡ line) ⊎ ((kept ≡ []) × (piece_size ≤ length line))
 
 -- what a call reads that keeps a line
 abbrev pub LineRead : ℕ → Stream → Stream → Result ⊤ LineError → Type 0

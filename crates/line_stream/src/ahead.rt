@@ -1,10 +1,11 @@
 //! The bytes that were read ahead.
 
-ghost use Rattle.std.specs.Prelude.{◌≡◌, ◌<◌, ◌≤◌, ◌+◌, ◌-◌, ◌==◌, ℕ, true, false, List, [], ◌∷◌};
+ghost use Rattle.std.specs.Prelude.{◌≡◌, ◌<◌, ◌≤◌, ◌+◌, ◌==◌, ℕ, true, false, List, [], ◌∷◌};
 ghost use Rattle.std.specs.Prelude.{◌++◌, length, take, drop, min, IfOk, IfSome, OnOk, OnErr};
 ghost use Rattle.std.specs.Prelude.{IsTrue, if◌then◌else◌, nat_lt};
 ghost use Rattle.std.specs.List.{list_all, prefix_len};
 ghost use Rattle.std.specs.Io.KnownBytes.{Consumes, Keeps};
+ghost use Rattle.port_io.specs.Bytes.{piece_size};
 ghost use Rattle.port_io.specs.Faults.{HasCause};
 ghost use Rattle.line_stream.specs.Feeds.{is_no_feed};
 
@@ -83,7 +84,7 @@ impl Ahead {
         ensures some { IfOk result (λ some. some ≡ nat_lt 0 (length self.new)) }
         ensures end { IfOk result (λ some. some ≡ false → IfSome (S.left source.old)
             (λ left. left ≡ [])) }
-        ensures few { length self.new ≤ 4096 }
+        ensures few { length self.new ≤ piece_size }
         ensures err { OnErr result (Keeps (S.left source.old) (S.left source.new)) }
         ensures none { OnErr result (self.new ≡ []) }
         ensures cause { HasCause (S.faults source.old) (S.faults source.new) result }
@@ -106,8 +107,8 @@ impl Ahead {
         ensures most { result.0 + (if result.1 then 1 else 0) ≤ most }
         ensures within { result.0 ≤ length self.old }
         ensures some { result.1 ≡ false → 0 < length self.old → 0 < most
-            → length kept.old < 4096 → 0 < result.0 }
-        ensures full { length kept.new ≤ 4096 }
+            → length kept.old < piece_size → 0 < result.0 }
+        ensures full { length kept.new ≤ piece_size }
     {
         let front = &self.buffer.as_slice()[self.at..];
         let (count, found) = front_of_line(front, most.min(kept.space()));

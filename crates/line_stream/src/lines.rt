@@ -1,6 +1,7 @@
 //! Reading the lines of a source, one after another.
 
 ghost use Rattle.std.specs.Prelude.{◌≡◌, ◌<◌, ◌≤◌, ◌-◌, [], false, length, nat_lt, IsOk, IfOk};
+ghost use Rattle.port_io.specs.Bytes.{piece_size};
 ghost use Rattle.line_stream.specs.Stream.{stream};
 ghost use Rattle.line_stream.specs.LineReading.{Filled, FrontRead, PieceRead, LineRead, RestRead};
 ghost use Rattle.line_stream.specs.LineReading.{LinesEndRead, surplus_of};
@@ -114,7 +115,7 @@ impl<const LIMIT: u32> Lines<LIMIT> {
 
     /// Whether more of the line can be kept.
     fn has_space(&self) -> bool
-        ensures { result ≡ nat_lt (length self.now.kept) 4096 }
+        ensures { result ≡ nat_lt (length self.now.kept) piece_size }
     {
         self.kept.space() > 0
     }
@@ -133,7 +134,7 @@ impl<const LIMIT: u32> Lines<LIMIT> {
     pub fn read_piece<S: Source>(&mut self, source: &mut S) -> Result<bool, LineError>
         ensures reads { PieceRead LIMIT (stream S.left S.faults S.is_strict self.old source.old)
             (stream S.left S.faults S.is_strict self.new source.new) result }
-        ensures full { IfOk result (λ feed. feed ≡ false → length self.new.kept ≡ 4096) }
+        ensures full { IfOk result (λ feed. feed ≡ false → length self.new.kept ≡ piece_size) }
         ensures more { IsOk result
             → (self.old.read < self.new.read) × (self.new.read ≤ LIMIT) }
     {

@@ -1,10 +1,9 @@
 -- No point of a closed square costs more than its ceiling: the radii of the farthest points are high for it, and each exceeds
 -- that of the fine bound by at most the diagonal.
-use Rattle.std.proofs.Common.{◌≡◌, ℕ, ◌+◌, ◌*◌, ◌/◌, ◌^◌, ◌≤◌, ◌<◌, ℤ, pos, negsuc, ◌+ℤ◌, ◌*ℤ◌, ◌≤ℤ◌, ◌<ℤ◌, true, List, [], ◌∷◌, map, fold, Option, None, Some, ap, subst, ◌∙◌, refl, ◌-◌, arith}
+use Rattle.std.proofs.Common.{◌≡◌, ℕ, ◌+◌, ◌*◌, ◌/◌, ◌^◌, ◌≤◌, ◌<◌, ℤ, pos, negsuc, ◌+ℤ◌, ◌*ℤ◌, ◌≤ℤ◌, ◌<ℤ◌, true, List, [], ◌∷◌, map, fold, Option, None, Some, subst, refl, ◌-◌, arith}
 use Rattle.std.proofs.Math.Nat.{mul-le-mul_left, mul-le-mul_right}
 use Rattle.std.proofs.lemmas.Int.{clamps}
-use Rattle.std.proofs.lemmas.List.Elements.{All-head, All-tail}
-use Rattle.std.specs.Prelude.{All, unsigned_abs}
+use Rattle.std.specs.Prelude.{unsigned_abs}
 use Rattle.std.specs.Int.{int_max}
 use borrow.Author.Differences.{ints}
 use Rattle.siting_definitions.specs.declared.Kind.{Kind}
@@ -12,7 +11,7 @@ use Rattle.siting_definitions.specs.declared.Kind.TheVariants.{Sum, Max}
 use Rattle.siting_definitions.specs.Integer.{round_down}
 use Rattle.siting_definitions.specs.Root.{floor_root, ceil_root}
 use Rattle.siting_definitions.specs.Point.{Place, Point}
-use Rattle.siting_definitions.specs.Instance.{DemandPt, Instance, IsDemandPt, IsInstance, place_of, weight}
+use Rattle.siting_definitions.specs.Instance.{DemandPt, Instance, place_of}
 use Rattle.siting_definitions.specs.Cost.{distance2, IsHighAt, terms, total, total_of}
 use Rattle.siting_definitions.specs.Square.{Square, holds_closed}
 use Rattle.siting_definitions.specs.Bounds.{near_on, far_on, near2, far2, capped, by_sign, fine_radius, fine_of}
@@ -23,7 +22,8 @@ use Rattle.root_enclosure.proofs.RootLemmas.{floor_root-is, ceil_root-le}
 use Rattle.dist_bounds.proofs.DistanceLemmas.{near2-below, far2-above}
 use Rattle.objectives.proofs.BoundLemmas.{at_positive, at_negative, root_below, root_above, high_by_sign, all_high, total_of-scaled}
 use Rattle.objectives.proofs.CoarseLemmas.{term-moved, added_weights}
-use Rattle.near_set.specs.Ceiling.{heaviest, steepness_by, steepness_of, diagonal_of, rise_of, ceiling_of, NoneCostsMore}
+use Rattle.objectives.specs.Steepness.{heaviest, steepness_by, steepness_of}
+use Rattle.near_set.specs.Ceiling.{diagonal_of, rise_of, ceiling_of, NoneCostsMore}
 
 -- ---- from the nearest to the farthest point of a square
 -- the ways x and y are longer than a and b by at most m, and e is at least m times the root of 2
@@ -152,27 +152,3 @@ ceiling_of-bounds i s p h =
     high_radii_cost i p (2 ^ 32) (map (λ d. p.q * steep_radius s d) i.points) _ (omega arith)
     (all_high (λ d. p.q * steep_radius s d) p (2 ^ 32) (steep_high s p h) i.points)
     (rw (total_of-scaled i (steep_radius s) p.q) (at_scale _ _ p.q (steep_total i s)))
-
--- ---- what the code computes of the steepness
-heaviest-small : (ds : List DemandPt) → All IsDemandPt ds → heaviest ds ≤ 16000000
-heaviest-small [] all = omega arith
-heaviest-small (d ∷ ds) all = omega (arith, (All-head IsDemandPt d ds all).w, heaviest-small ds (All-tail IsDemandPt d ds all))
-
--- the steepness of an instance is within the limit of the weights
-pub steepness-small : (i : Instance) → IsInstance i → steepness_of i ≤ 16000000
-unfolding steepness_of
-steepness-small i limits = by_kind i.kind i.points limits.weight limits.points
-  where
-    by_kind : (kind : Kind) (ds : List DemandPt) → weight ds ≤ 16000000 → All IsDemandPt ds → steepness_by kind ds ≤ 16000000
-    by_kind Sum ds light all = light
-    by_kind Max ds light all = heaviest-small ds all
-
--- what is computed of the sum's steepness
-pub steepness-sum : (i : Instance) (n : ℕ) → Sum ≡ i.kind → n ≡ weight i.points → n ≡ steepness_of i
-unfolding steepness_of
-steepness-sum i n kind is = is ∙ ap (λ kind. steepness_by kind i.points) kind
-
--- what is computed of the steepness of the greatest term
-pub steepness-max : (i : Instance) (ds : List DemandPt) (n : ℕ) → Max ≡ i.kind → ds ≡ i.points → n ≡ heaviest ds → n ≡ steepness_of i
-unfolding steepness_of
-steepness-max i ds n kind points is = is ∙ ap heaviest points ∙ ap (λ kind. steepness_by kind i.points) kind

@@ -1,26 +1,11 @@
 -- A number that no point of a square costs more than, from the fine bound of the square alone.
-use Rattle.std.specs.Prelude.{◌≡◌, ℕ, ◌+◌, ◌*◌, ◌/◌, ◌^◌, max, ℤ, pos, ◌+ℤ◌, unsigned_abs, true}
-use Rattle.std.specs.Prelude.{List, [], ◌∷◌}
-use Rattle.siting_definitions.specs.declared.Kind.{Kind}
-use Rattle.siting_definitions.specs.declared.Kind.TheVariants.{Sum, Max}
+use Rattle.std.specs.Prelude.{◌≡◌, ℕ, ◌+◌, ◌*◌, ◌/◌, ◌^◌, ℤ, pos, ◌+ℤ◌, true}
 use Rattle.siting_definitions.specs.Point.{Point}
-use Rattle.siting_definitions.specs.Instance.{DemandPt, Instance, weight}
+use Rattle.siting_definitions.specs.Instance.{Instance}
 use Rattle.siting_definitions.specs.Cost.{CostAtMost}
 use Rattle.siting_definitions.specs.Square.{Square, holds_closed}
 use Rattle.siting_definitions.specs.Bounds.{fine_of}
-
--- the greatest of the weights' sizes, and 0 of no points
-abbrev pub heaviest : List DemandPt → ℕ
-heaviest [] = 0
-heaviest (d ∷ ds) = max (unsigned_abs d.w) (heaviest ds)
-
-abbrev pub steepness_by : Kind → List DemandPt → ℕ
-steepness_by Sum ds = weight ds
-steepness_by Max ds = heaviest ds
-
--- by how many cost units the costs of two points a grid unit apart differ at most
-unfoldable pub steepness_of : Instance → ℕ
-steepness_of i = steepness_by i.kind i.points
+use Rattle.objectives.specs.Steepness.{steepness_of}
 
 -- a whole number of grid units that is above the square's diagonal: 17 / 12 is above the root of 2
 unfoldable pub diagonal_of : Square → ℕ

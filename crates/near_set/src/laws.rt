@@ -1,7 +1,7 @@
 //! Laws of near sets. Each function here does nothing, and its clauses are the law.
 
 ghost use Rattle.std.specs.Prelude.{◌≡◌, ◌≢◌, ℕ, ◌+◌, ◌<◌, ◌≤◌, ℤ, pos, ◌+ℤ◌, ◌≤ℤ◌, true, not};
-ghost use Rattle.std.specs.Prelude.{List, [], filter, count_by, Some, All};
+ghost use Rattle.std.specs.Prelude.{[], filter, count_by, Some, All};
 ghost use Rattle.siting_definitions.specs.Point.{Point, point_of};
 ghost use Rattle.siting_definitions.specs.Instance.{Instance, IsInstance};
 ghost use Rattle.siting_definitions.specs.Permitted.{permits};

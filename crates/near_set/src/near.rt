@@ -1,6 +1,6 @@
 //! The squares of a near set, counted and written.
 
-ghost use Rattle.std.specs.Prelude.{◌≡◌, ℕ, ◌<◌, ◌≤◌, min, length, MatchOption};
+ghost use Rattle.std.specs.Prelude.{◌≡◌, ◌<◌, ◌≤◌, min, length, MatchOption};
 ghost use Rattle.port_io.specs.Output.{IsOpen, PutOn};
 ghost use Rattle.siting_definitions.specs.Line.{line_text};
 ghost use Rattle.near_set.specs.Near.{near_below, near_list, square_line, squares_text};

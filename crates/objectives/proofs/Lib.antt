@@ -6,3 +6,4 @@ mod Computed
 pub mod Sizes
 pub mod SiteSizes
 mod JoinedTerms
+mod SteepnessLemmas

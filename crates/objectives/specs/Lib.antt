@@ -1,3 +1,4 @@
 pub mod Totals
 pub mod Limits
 pub mod TotalLaws
+pub mod Steepness

@@ -11,6 +11,7 @@ mod laws;
 mod passes;
 mod radii;
 mod rounding;
+mod steep;
 #[cfg(test)]
 mod tests;
 mod total;
@@ -23,4 +24,5 @@ pub use laws::{
     quarters_are_bounded_higher,
 };
 pub use radii::fine_radius;
+pub use steep::steepness;
 pub use total::{MaxTotal, SumTotal, Total};

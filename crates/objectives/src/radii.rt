@@ -1,6 +1,6 @@
 //! The radius of a demand point in the bounds of a square and in the costs of a site.
 
-ghost use Rattle.std.specs.Prelude.{◌≡◌, ℕ, ◌+◌, ◌*◌, ◌/◌, ◌^◌, ◌≤◌, ℤ, pos, ◌≤ℤ◌, int_lt};
+ghost use Rattle.std.specs.Prelude.{◌≡◌, ℕ, ◌+◌, ◌*◌, ◌/◌, ◌^◌, ◌≤◌, pos, ◌≤ℤ◌, int_lt};
 ghost use Rattle.std.specs.Prelude.{if◌then◌else◌, MatchOption, ⊤};
 ghost use Rattle.std.proofs.Common.{lit≤};
 ghost use Rattle.siting_definitions.specs.Root as roots;

@@ -1,6 +1,6 @@
 -- What a check reads that reads in batches: of the bytes that it read it says what `check` does,
 -- but it may have read more of them than were needed.
-use Rattle.std.specs.Prelude.{◌≡◌, ℕ, ◌≤◌, ◌==◌, Bool, List, ◌++◌, length, count_by, Option}
+use Rattle.std.specs.Prelude.{◌≡◌, ℕ, ◌≤◌, ◌==◌, List, ◌++◌, length, count_by, Option}
 use Rattle.std.specs.Prelude.{Result, Ok, Err, ⊤}
 use Rattle.std.specs.Io.KnownBytes.{Consumes}
 use Rattle.port_io.specs.Bytes.{piece_size}
@@ -17,6 +17,7 @@ use Rattle.cert_checker.specs.declared.faults.CheckError.TheVariants.{NoMemory}
 use Rattle.cert_checker.specs.declared.checking.Accepted.{Accepted}
 use Rattle.cert_checker.specs.Checking.{check_in}
 use Rattle.cert_checker.specs.CheckReading.{SaysOf, CheckStopsAs, IsPast, after_root, at_last}
+use Rattle.pair_check.specs.declared.taking.TheConstants.{BATCH_LINES}
 
 -- how many line feeds these bytes have
 abbrev pub feeds : List ℕ → ℕ
@@ -31,7 +32,7 @@ pub record IsAhead (wanted : Coming → Result Accepted CheckError) (lines : Lin
   pub piece : List ℕ
   pub parts : got ≡ first ++ (batch ++ piece)
   pub needed : IsNeeded answer_limit wanted TooLong lines first
-  pub few_lines : feeds batch ≤ 65536
+  pub few_lines : feeds batch ≤ BATCH_LINES
   pub few : length piece ≤ piece_size
 
 -- the same of a whole check

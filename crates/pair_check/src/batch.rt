@@ -2,6 +2,7 @@
 
 ghost use Rattle.std.specs.Prelude.{◌≡◌, ◌≤◌, [], ◌∷◌, vec_capacity};
 ghost use Rattle.siting_definitions.specs.Marks.{tally_of};
+ghost use Rattle.pair_check.specs.declared.taking.TheConstants.{BATCH_LINES};
 
 use cert_checker::{Tally, Walk};
 use discard_log::Node;
@@ -18,14 +19,14 @@ pub(crate) struct Batch {
     pub(crate) tally: Tally,
     /// The squares that come after theirs.
     pub(crate) walk: Walk,
-    ghost room: { 65536 ≤ vec_capacity nodes },
+    ghost room: { BATCH_LINES ≤ vec_capacity nodes },
 }
 
 impl Batch {
     /// A batch without a line yet, after so many lines, before the tree of this root. `nodes` is
     /// its room, and is empty.
     pub(crate) fn begin(nodes: Vec<Node>, above: u64, root: Square) -> Batch
-        requires room { 65536 ≤ vec_capacity nodes }
+        requires room { BATCH_LINES ≤ vec_capacity nodes }
         requires empty { nodes.items ≡ [] }
         ensures nodes { result.nodes.items ≡ [] }
         ensures above { result.above ≡ above }

@@ -77,7 +77,7 @@ fn check_text<R: Threads + Sync, S: Source, G: CheckGate + Sync>(
     nodes: Vec<Node>,
 ) -> Result<Accepted, CheckError>
     requires some { 0 < workers }
-    requires room { 65536 ≤ vec_capacity nodes }
+    requires room { BATCH_LINES ≤ vec_capacity nodes }
     requires empty { nodes.items ≡ [] }
     ensures { BatchesDone (start_of (S.left source.old) (S.faults source.old) S.is_strict)
         (start_of (S.left source.new) (S.faults source.new) S.is_strict) result }
@@ -102,7 +102,7 @@ fn read_marks<R: Threads + Sync, S: Source, G: CheckGate + Sync>(
 ) -> Result<Tally, CheckError>
     requires opening { opening ≡ opening_cost head.now.instance }
     requires some { 0 < workers }
-    requires room { 65536 ≤ vec_capacity nodes }
+    requires room { BATCH_LINES ≤ vec_capacity nodes }
     requires empty { nodes.items ≡ [] }
     ensures same { source_of reader.new ≡ source_of reader.old }
     ensures reads { MarksChecked head.now (stream_of S.left S.faults S.is_strict reader.old)

@@ -1,14 +1,13 @@
 //! The lines of a batch, checked in parts at the same time.
 
-ghost use Rattle.std.specs.Prelude.{◌≡◌, ◌+◌, ◌*◌, ◌/◌, ◌%◌, ◌<◌, ◌≤◌, ◌^◌, min, IfOk, length, map};
+ghost use Rattle.std.specs.Prelude.{◌≡◌, ◌+◌, ◌*◌, ◌/◌, ◌%◌, ◌<◌, ◌≤◌, ◌^◌, min, IfOk, length};
 ghost use Rattle.std.specs.Result.{result_err};
 ghost use denote.Param.Send.{IsSync};
 ghost use Rattle.siting_definitions.specs.Sites.{opening_cost};
-ghost use Rattle.siting_definitions.specs.Marks.{tally_of};
-ghost use Rattle.discard_log.specs.Nodes.{mark_of};
 ghost use Rattle.answer_model.specs.Tally.{AreSmall, tally_sum};
 ghost use Rattle.cert_checker.specs.Faults.{or_else};
-ghost use Rattle.pair_check.specs.Lines.{AreChecked, lines_fault};
+ghost use Rattle.pair_check.specs.declared.taking.TheConstants.{BATCH_LINES};
+ghost use Rattle.pair_check.specs.Lines.{AreChecked};
 
 use crate::gate::CheckGate;
 use answer_model::Head;
@@ -33,7 +32,7 @@ pub(crate) fn check_parts<R: Threads + Sync, G: CheckGate + Sync>(
     parts: u32,
 ) -> Result<Tally, CheckFault>
     requires opening { opening ≡ opening_cost head.now.instance }
-    requires few { length nodes.now ≤ 65536 }
+    requires few { length nodes.now ≤ BATCH_LINES }
     requires lines { above + length nodes.now < 2 ^ 64 }
     requires some { 0 < parts }
     requires numbers { first + parts < 2 ^ 32 }
@@ -49,13 +48,13 @@ pub(crate) fn check_parts<R: Threads + Sync, G: CheckGate + Sync>(
     let middle = first + low;
     let low_parts = move || -> Result<Tally, CheckFault>
         requires { IsSync R.row × IsSync G.row × (opening ≡ opening_cost head.now.instance)
-            × (length front.now ≤ 65536) × (above + length front.now < 2 ^ 64) × (0 < low)
+            × (length front.now ≤ BATCH_LINES) × (above + length front.now < 2 ^ 64) × (0 < low)
             × (first + low < 2 ^ 32) }
         ensures { AreChecked head.entry.now above front.entry.now result }
     { check_parts(rt, gate, head, opening, front, above, first, low) };
     let high_parts = move || -> Result<Tally, CheckFault>
         requires { IsSync R.row × IsSync G.row × (opening ≡ opening_cost head.now.instance)
-            × (length back.now ≤ 65536) × (between + length back.now < 2 ^ 64) × (0 < high)
+            × (length back.now ≤ BATCH_LINES) × (between + length back.now < 2 ^ 64) × (0 < high)
             × (middle + high < 2 ^ 32) }
         ensures { AreChecked head.entry.now between back.entry.now result }
     { check_parts(rt, gate, head, opening, back, between, middle, high) };
@@ -66,7 +65,7 @@ pub(crate) fn check_parts<R: Threads + Sync, G: CheckGate + Sync>(
 /// How many of so many lines the first `low` of `parts` parts have, of which each has as many as the
 /// others or, where it is one of the first, one more.
 fn lines_of(lines: usize, parts: usize, low: usize) -> usize
-    requires lines { lines ≤ 65536 }
+    requires lines { lines ≤ BATCH_LINES }
     requires parts { low < parts }
     requires few { parts < 2 ^ 32 }
     ensures value { result ≡ low * (lines / parts) + min low (lines % parts) }
@@ -85,7 +84,7 @@ fn check_part<G: CheckGate>(
     part: u32,
 ) -> Result<Tally, CheckFault>
     requires opening { opening ≡ opening_cost head.now.instance }
-    requires few { length nodes.now ≤ 65536 }
+    requires few { length nodes.now ≤ BATCH_LINES }
     requires lines { above + length nodes.now < 2 ^ 64 }
     ensures { AreChecked head.now above nodes.now result }
 {
@@ -103,7 +102,7 @@ fn check_lines(
     above: u64,
 ) -> Result<Tally, CheckFault>
     requires opening { opening ≡ opening_cost head.now.instance }
-    requires few { length nodes.now ≤ 65536 }
+    requires few { length nodes.now ≤ BATCH_LINES }
     requires lines { above + length nodes.now < 2 ^ 64 }
     ensures { AreChecked head.now above nodes.now result }
 {

@@ -40,7 +40,7 @@ impl Batch {
     ) -> Option<CheckFault>
         requires opening { opening ≡ opening_cost head.now.instance }
         requires some { 0 < workers }
-        requires few { vec_len self.old.nodes ≤ 65536 }
+        requires few { vec_len self.old.nodes ≤ BATCH_LINES }
         requires lines { self.old.above + vec_len self.old.nodes < 2 ^ 64 }
         requires small { AreSmall (tally_with self.old) }
         ensures fault { result ≡ batch_fault head.now self.old }
@@ -67,7 +67,7 @@ impl Batch {
     /// level 0 has no quarters, and no line comes after it, since it always has a fault.
     fn add(&mut self, square: Square, mark: Mark) -> bool
         requires square { slice_get self.old.walk 0 ≡ Some square }
-        requires few { vec_len self.old.nodes < 65536 }
+        requires few { vec_len self.old.nodes < BATCH_LINES }
         ensures nodes { self.new.nodes.items
             ≡ self.old.nodes.items ++ record { square = square; mark = mark } ∷ [] }
         ensures len { vec_len self.new.nodes ≡ vec_len self.old.nodes + 1 }
@@ -77,7 +77,7 @@ impl Batch {
             → self.new.walk ≡ squares_after self.old.walk (marks.is_split mark) }
         ensures more { result
             ≡ (not (marks.is_split mark && nat_eq square.level 0)
-            && nat_lt (vec_len self.new.nodes) 65536) }
+            && nat_lt (vec_len self.new.nodes) BATCH_LINES) }
     {
         match self.nodes.push(Node { square, mark }) {
             Ok(()) => {}
@@ -104,12 +104,12 @@ impl Batch {
     ) -> Option<CheckFault>
         requires opening { opening ≡ opening_cost head.now.instance }
         requires some { 0 < workers }
-        requires few { vec_len self.old.nodes < 65536 }
+        requires few { vec_len self.old.nodes < BATCH_LINES }
         requires line { line ≡ self.old.above + vec_len self.old.nodes + 1 }
         requires small { AreSmall (tally_sum (tally_with self.old) (tally_of (mark ∷ []))) }
         ensures says { TakesItem line (batch_says_with head.now self.old (NodeItem mark))
             (batch_says head.now self.new) result }
-        ensures few { result ≡ None → vec_len self.new.nodes < 65536 }
+        ensures few { result ≡ None → vec_len self.new.nodes < BATCH_LINES }
         ensures grows { result ≡ None → Grows self.old.nodes.items self.new.nodes.items }
         ensures line { result ≡ None → line ≡ self.new.above + vec_len self.new.nodes }
         ensures tally { result ≡ None
@@ -149,7 +149,7 @@ impl Batch {
     ) -> Result<Tally, CheckFault>
         requires opening { opening ≡ opening_cost head.now.instance }
         requires some { 0 < workers }
-        requires few { vec_len self.nodes ≤ 65536 }
+        requires few { vec_len self.nodes ≤ BATCH_LINES }
         requires lines { self.above + vec_len self.nodes < 2 ^ 64 }
         requires small { AreSmall (tally_with self) }
         ensures { Closes line head.now (batch_says_with head.now self EndItem) result }

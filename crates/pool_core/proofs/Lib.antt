@@ -11,5 +11,4 @@ mod Leasing
 mod Returning
 mod Beginnings
 mod Resumed
-mod Walks
 mod Listed

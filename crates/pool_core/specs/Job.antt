@@ -1,6 +1,7 @@
 -- A job: an instance, and the settings of the search over it.
-use Rattle.std.specs.Prelude.{◌≡◌, ℕ, ◌≤◌, ◌^◌, ℤ, pos, ◌≤ℤ◌, IsTrue}
+use Rattle.std.specs.Prelude.{◌≡◌, ℕ, ◌≤◌, ℤ, pos, ◌≤ℤ◌, IsTrue}
 use Rattle.std.specs.Prelude.{Option, option_map, MatchOption, ⊤}
+use Rattle.siting_definitions.specs.declared.TheConstants.{GAP_LIMIT, BUDGET_LIMIT, POOL_LIMIT}
 use Rattle.siting_definitions.specs.Point.{Pt, point_of}
 use Rattle.siting_definitions.specs.Instance.{Instance, IsInstance}
 use Rattle.siting_definitions.specs.Permitted.{permits}
@@ -40,10 +41,10 @@ pub record IsOffer (i : Instance) (z : Pt) (cost : ℤ) : Type 0 where
 pub record IsJob (j : Job) : Type 0 where
   pub instance : IsInstance j.instance
   pub gap_least : pos 0 ≤ℤ j.gap
-  pub gap_most : j.gap ≤ℤ pos (2 ^ 62)
-  pub budget : j.budget ≤ 1000000
+  pub gap_most : j.gap ≤ℤ pos GAP_LIMIT
+  pub budget : j.budget ≤ BUDGET_LIMIT
   pub pool_least : 1 ≤ j.pool
-  pub pool_most : j.pool ≤ 1000000
+  pub pool_most : j.pool ≤ POOL_LIMIT
   pub start : MatchOption j.start ⊤ (λ z. IsOffer j.instance z.0 z.1)
 
 -- a job that starts from a site that costs no more than the opening, if there is an opening

@@ -1,6 +1,7 @@
 //! The verdict on a leased square.
 
-ghost use Rattle.std.specs.Prelude.{◌≡◌, ◌^◌, nat_lt, pos, ◌+ℤ◌, ◌-ℤ◌, ◌≤ℤ◌, ◌&&◌, not};
+ghost use Rattle.std.specs.Prelude.{◌≡◌, nat_lt, pos, ◌+ℤ◌, ◌-ℤ◌, ◌≤ℤ◌, ◌&&◌, not};
+ghost use Rattle.siting_definitions.specs.declared.TheConstants.{WEIGHT_LIMIT, GAP_LIMIT};
 ghost use Rattle.siting_definitions.specs.Instance.{weight};
 ghost use Rattle.siting_definitions.specs.Marks as marks;
 ghost use Rattle.pool_core.specs.Verdict as verdicts;
@@ -159,9 +160,9 @@ fn is_for_parting(job: &Job, square: Square, bound: i64, seen: Option<i64>) -> b
 /// the gap, all in cost units.
 fn reaches_beyond(least: Option<i64>, bound: i64, weight: i64, gap: i64) -> bool
     requires weight_least { pos 0 ≤ℤ weight }
-    requires weight_most { weight ≤ℤ pos 16000000 }
+    requires weight_most { weight ≤ℤ pos WEIGHT_LIMIT }
     requires gap_least { pos 0 ≤ℤ gap }
-    requires gap_most { gap ≤ℤ pos (2 ^ 62) }
+    requires gap_most { gap ≤ℤ pos GAP_LIMIT }
     ensures { result ≡ marks.reaches least (((bound +ℤ weight) -ℤ pos 1) +ℤ gap) }
 {
     reaches(least, bound, weight - 1 + gap)

@@ -3,10 +3,11 @@
 use Rattle.std.specs.Prelude.{◌≡◌, ◌↔◌, ℕ, ◌≤◌, List, [], ◌++◌, length, take, Option, None, Some}
 use Rattle.std.specs.Prelude.{IfSome, Result, MatchResult, nat_le, if◌then◌else◌}
 use Rattle.std.specs.Io.KnownBytes.{Consumes, Keeps}
+use Rattle.port_io.specs.declared.buffer.TheConstants.{BUFFER_SIZE}
 
 -- how many bytes are read at once or wait to be written, at most
 abbrev pub piece_size : ℕ
-piece_size = 4096
+piece_size = BUFFER_SIZE
 
 -- `read(buf)` gave the first n bytes left at `Ok(n)`, none exactly where nothing was left, and left
 -- all at `Err`; a source that tells goes on telling

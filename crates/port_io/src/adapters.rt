@@ -1,11 +1,11 @@
 //! The readers and writers of std as ports.
 
-ghost use Rattle.std.specs.Prelude.{◌≡◌, ℕ, ◌<◌, ◌≤◌, None, Some, length, true, IfOk, OnOk, IsTrue};
+ghost use Rattle.std.specs.Prelude.{◌≡◌, ◌<◌, ◌≤◌, None, length, true, IfOk, OnOk, IsTrue};
 ghost use Rattle.std.specs.Prelude.{refl};
 ghost use Rattle.port_io.specs.Faults.{HasCause, CountsFaults};
 ghost use Rattle.std.specs.Io.KnownBytes.{WriteAppends};
 ghost use Rattle.port_io.specs.Adapters.{writer_of};
-ghost use Rattle.port_io.specs.Bytes.{Reads, Took, Writes};
+ghost use Rattle.port_io.specs.Bytes.{Reads};
 
 use crate::ports::{Failed, Sink, Source};
 use std::io::{ErrorKind, Read, Write};

@@ -1,10 +1,10 @@
 //! A source and a sink in memory, which fail at the calls that they are told to.
 
-ghost use Rattle.std.specs.Prelude.{◌≡◌, ℕ, ◌+◌, ◌-◌, ◌<◌, ◌≤◌, ◌||◌, None, Some, List, [], ◌++◌};
+ghost use Rattle.std.specs.Prelude.{◌≡◌, ℕ, ◌-◌, ◌<◌, ◌≤◌, ◌||◌, None, Some, List, []};
 ghost use Rattle.std.specs.Prelude.{length, take, drop, min, nat_le, vec_len, vec_capacity, true};
-ghost use Rattle.std.specs.Prelude.{is_err, IsTrue, IfOk, OnOk, OnErr, refl};
+ghost use Rattle.std.specs.Prelude.{is_err, IsTrue, IfOk, OnOk};
 ghost use Rattle.port_io.specs.Faults.{HasCause, CountsFaults, next_count};
-ghost use Rattle.port_io.specs.Bytes.{Reads, Took, Writes};
+ghost use Rattle.port_io.specs.Bytes.{Reads, Writes};
 ghost use Rattle.port_io.specs.MemoryPorts.{MemSourceState, MemSinkState, is_listed};
 ghost use Rattle.port_io.specs.SinkLaws.{Took-nothing};
 

@@ -1,9 +1,8 @@
 //! Sources and a sink in memory that never fail.
 
-ghost use Rattle.std.specs.Prelude.{◌≡◌, ℕ, ◌+◌, ◌≤◌, Option, None, Some, List, [], length};
+ghost use Rattle.std.specs.Prelude.{◌≡◌, ℕ, ◌≤◌, None, Some, List, [], length};
 ghost use Rattle.std.specs.Prelude.{MatchOption, vec_len, vec_capacity, true, false, min, take};
 ghost use Rattle.std.specs.Prelude.{drop, IfOk, if◌then◌else◌};
-ghost use Rattle.port_io.specs.Bytes.{told};
 ghost use Rattle.port_io.specs.MemoryPorts.{SureSinkState, sure_taken};
 ghost use Rattle.port_io.specs.SinkLaws.{sure-nothing};
 

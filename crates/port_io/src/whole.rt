@@ -6,12 +6,10 @@ ghost use Rattle.port_io.specs.Faults.{Rose};
 ghost use Rattle.port_io.specs.Bytes.{HasRest};
 ghost use Rattle.port_io.specs.Whole.{ReadsAtMost, UnlessReadFault};
 
+use crate::buffer::BUFFER_SIZE;
 use crate::ports::Source;
 use std::alloc::Global;
 use thiserror::Error;
-
-/// How many bytes one read asks for at most.
-const PIECE: usize = 4096;
 
 /// Why an input was not read to its end.
 #[derive(Debug, Drop, Error)]
@@ -64,7 +62,7 @@ pub fn read_up_to<S: Source>(
     ensures later { S.faults source.old ≤ S.faults source.new }
 {
     let mut bytes = Vec::new(alloc);
-    let mut piece = [0; PIECE];
+    let mut piece = [0; BUFFER_SIZE];
     loop {
         let count = match source.read(&mut piece) {
             Ok(count) => count,

@@ -1,8 +1,7 @@
 -- A tree that grew from another: where one is split, so is the other. Its least bound is none, or no lower.
-use Rattle.std.proofs.Common.{◌≡◌, ℕ, zero, suc, ◌+◌, ◌<◌, ◌≤◌, ℤ, ◌+ℤ◌, ◌≤ℤ◌, Bool, true, false, cond, ◌&&◌, List, [], ◌∷◌, ◌++◌, map, Option, None, Some, refl, sym, ap, ◌∙◌, subst, ◌⊎◌, inl, inr, arith}
+use Rattle.std.proofs.Common.{◌≡◌, ℕ, ◌+◌, ◌<◌, ◌≤◌, ℤ, Bool, true, false, cond, ◌&&◌, List, [], ◌∷◌, ◌++◌, Option, None, Some, refl, sym, ap, ◌∙◌, ◌⊎◌, inl, inr, arith}
 use Rattle.std.specs.Prelude.{MatchOption, ⊤}
-use Rattle.std.specs.Int.{int_min}
-use Rattle.std.proofs.lemmas.Bool.{cases_Bool, cond-true, cond-false, true≢false, false≢true}
+use Rattle.std.proofs.lemmas.Bool.{cases_Bool, cond-true, cond-false, true≢false}
 use Rattle.std.proofs.lemmas.Int.{clamps}
 use borrow.Author.Differences.{ints}
 use Rattle.siting_definitions.specs.declared.Mark.{Mark}
@@ -11,10 +10,10 @@ use Rattle.siting_definitions.specs.Square.{Square, quarter_of}
 use Rattle.siting_definitions.specs.Bounds.{fine_of}
 use Rattle.siting_definitions.specs.Excluded.{is_excluded}
 use Rattle.siting_definitions.specs.Tree.{Tree, Leaf, Branch, Fits, TreeSquare, preorder}
-use Rattle.siting_definitions.specs.Marks.{IsAtMost, leaf_mark, SplitFits, MarkFits, MarksFit, lesser, bound_of, least_of}
+use Rattle.siting_definitions.specs.Marks.{IsAtMost, leaf_mark, MarkFits, MarksFit, lesser, bound_of, least_of}
 use Rattle.siting_definitions.proofs.MarkLemmas.{shut_leaf, open_bound, split_bound, lesser-assoc, lesser-none, at_most-refl, at_most-trans}
 use Rattle.dyadic_square.specs.Order.{rank_of}
-use Rattle.dyadic_square.proofs.Bag.{total, once, total-append, Rising}
+use Rattle.dyadic_square.proofs.Bag.{total, once, Rising}
 use Rattle.dyadic_square.proofs.Order.{ranks-rise, aligned-refl}
 use Rattle.dyadic_square.proofs.Trees.{same_square, square_decides, same_bool, same_tree_square, tree_square_decides, leaf_at, split_at, total-branch}
 use Rattle.objectives.proofs.QuarterLemmas.{fine_of-quarter}

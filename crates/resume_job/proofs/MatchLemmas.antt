@@ -1,14 +1,13 @@
 -- Nodes of which each square stands once: how many have their squares among others.
-use Rattle.std.proofs.Common.{◌≡◌, ℕ, ◌+◌, ◌<◌, ◌≤◌, Bool, true, false, cond, not, ◌&&◌, ◌||◌, List, [], ◌∷◌, ◌++◌, map, length, filter, count_by, refl, sym, ap, ◌∙◌, subst, ◌⊎◌, inl, inr, arith}
+use Rattle.std.proofs.Common.{◌≡◌, ℕ, ◌+◌, ◌≤◌, Bool, true, false, cond, not, ◌&&◌, ◌||◌, List, [], ◌∷◌, map, length, filter, refl, ap, ◌∙◌, ◌⊎◌, inl, inr, arith}
 use Rattle.std.specs.Prelude.{⊤}
 use Rattle.std.proofs.lemmas.Bool.{cases_Bool}
-use Rattle.std.proofs.lemmas.List.Sums.{length-filter}
 use Rattle.siting_definitions.specs.Square.{Square}
 use Rattle.siting_definitions.specs.Tree.{Tree, TreeSquare, Fits, preorder}
 use Rattle.siting_definitions.specs.Marks.{is_open}
 use Rattle.discard_log.specs.declared.node.Node.{Node}
 use Rattle.discard_log.specs.Nodes.{tree_square}
-use Rattle.dyadic_square.proofs.Bag.{total, once, count_by-total}
+use Rattle.dyadic_square.proofs.Bag.{total, once}
 use Rattle.dyadic_square.proofs.Trees.{square_decides}
 use Rattle.resume_job.specs.Resumed.{same_square, is_among, is_open_among}
 use Rattle.resume_job.proofs.GrownLemmas.{once_there}

@@ -1,22 +1,20 @@
 -- The job and the pool that go on from a valid answer.
-use Rattle.std.proofs.Common.{◌≡◌, ℕ, ◌+◌, ◌<◌, ◌≤◌, Bool, ℤ, List, [], ◌∷◌, map, length, count_by, Option, None, Some, refl, sym, ap, ◌∙◌, subst, arith}
+use Rattle.std.proofs.Common.{◌≡◌, ℕ, ◌+◌, ◌≤◌, Bool, List, [], ◌∷◌, map, length, count_by, Option, None, Some, refl, sym, ap, ◌∙◌, subst, arith}
 use Rattle.std.specs.Prelude.{MatchOption, ⊤, option_map}
 use Rattle.std.proofs.lemmas.List.{length-map}
 use Rattle.std.proofs.lemmas.List.Sums.{count_by-le-length}
 use Rattle.siting_definitions.specs.declared.Mark.{Mark}
-use Rattle.siting_definitions.specs.Instance.{Instance}
 use Rattle.siting_definitions.specs.Sites.{root_of, opening_cost}
 use Rattle.siting_definitions.specs.Tree.{Tree, preorder}
 use Rattle.siting_definitions.specs.Marks.{AreMarks, IsAtMost, Tally, tally_of, is_split, is_open}
-use Rattle.siting_definitions.specs.Answer.{Best, Head, IsValid, upper_cost}
+use Rattle.siting_definitions.specs.Answer.{Best, Head, upper_cost}
 use Rattle.dyadic_square.proofs.Bag.{total, once, count_by-total}
 use Rattle.discard_log.specs.declared.node.Node.{Node}
 use Rattle.discard_log.specs.Nodes.{mark_of, tree_square}
-use Rattle.answer_model.specs.Nodes.{nodes_of}
 use Rattle.answer_model.proofs.NodesLemmas.{valid-nodes}
 use Rattle.certificate.proofs.LengthLemmas.{few_marks}
 use Rattle.pool_core.specs.Begun.{IsResumable, left_count}
-use Rattle.pool_core.specs.Job.{Job, IsJob, IsLawful, cost_in, start_cost, job_root}
+use Rattle.pool_core.specs.Job.{Job, IsJob, IsLawful, cost_in, start_cost}
 use Rattle.pool_core.specs.State.{split_count}
 use Rattle.search_answer.specs.Ending.{answer_of, offer_of}
 use Rattle.resume_job.specs.Loading.{AreOfValid}

@@ -1,13 +1,12 @@
 -- The answer of a search that began from another answer's nodes is resumed from it, and shows its work.
-use Rattle.std.proofs.Common.{◌≡◌, ℕ, ◌+◌, ◌*◌, ◌<◌, ◌≤◌, ◌==◌, Bool, true, false, cond, not, ◌&&◌, ℤ, ◌<ℤ◌, ◌≤ℤ◌, List, [], ◌∷◌, ◌++◌, map, length, filter, count_by, Option, None, Some, refl, sym, ap, ◌∙◌, subst, ◌⊎◌, inl, inr, length-append, arith}
-use Rattle.std.specs.Prelude.{All, Contains, MatchOption, ⊤, option_map, is_some, slice_index_or}
+use Rattle.std.proofs.Common.{◌≡◌, ℕ, ◌+◌, ◌*◌, ◌≤◌, ◌==◌, Bool, true, false, cond, not, ◌&&◌, ℤ, List, [], ◌∷◌, ◌++◌, map, length, filter, count_by, Option, None, Some, refl, sym, ap, ◌∙◌, subst, ◌⊎◌, inl, inr, length-append, arith}
+use Rattle.std.specs.Prelude.{All, Contains, MatchOption, ⊤, is_some, slice_index_or}
 use Rattle.std.specs.List.Sorted.{IsPermutation}
-use Rattle.std.proofs.lemmas.Bool.{cases_Bool, false≢true, true≢false, false_from_ne_true}
+use Rattle.std.proofs.lemmas.Bool.{cases_Bool, false≢true, true≢false}
 use Rattle.std.proofs.lemmas.List.{length-map}
 use Rattle.std.proofs.lemmas.List.Sums.{length-filter, count_by-le-length}
 use Rattle.std.proofs.lemmas.List.Elements.{All-contains, Contains-append_left}
 use Rattle.std.proofs.lemmas.List.Sorted.{Contains-permutation}
-use borrow.Author.Differences.{ints}
 use Rattle.siting_definitions.specs.declared.Mark.{Mark}
 use Rattle.siting_definitions.specs.declared.Mark.TheVariants.{Split, Shut, Bounded, Floor as FloorMark, Left}
 use Rattle.siting_definitions.specs.declared.Word.{Word}
@@ -16,9 +15,8 @@ use Rattle.siting_definitions.specs.Point.{Pt}
 use Rattle.siting_definitions.specs.Square.{Square}
 use Rattle.siting_definitions.specs.Sites.{root_of}
 use Rattle.siting_definitions.specs.Tree.{Tree, TreeSquare, preorder}
-use Rattle.siting_definitions.specs.Marks.{IsAtMost, AreMarks, Tally, tally_of, least_of, is_split, is_open, is_leaf}
-use Rattle.siting_definitions.specs.Answer.{Best, Head, Answer, IsValid, upper_cost, is_stopped}
-use Rattle.siting_definitions.proofs.Integers.{le_refl_ℤ}
+use Rattle.siting_definitions.specs.Marks.{IsAtMost, AreMarks, Tally, tally_of, is_split, is_open, is_leaf}
+use Rattle.siting_definitions.specs.Answer.{Head, Answer, IsValid, upper_cost, is_stopped}
 use Rattle.siting_definitions.proofs.MarkLemmas.{leaf-not_split}
 use Rattle.site_model.proofs.Rooted.{IsSquare-root}
 use Rattle.dyadic_square.specs.Walk.{Walks, coming_after}
@@ -32,19 +30,19 @@ use Rattle.answer_model.specs.Nodes.{nodes_in_order, nodes_of}
 use Rattle.answer_model.proofs.NodesLemmas.{valid-nodes}
 use Rattle.pool_core.specs.declared.stop.Stop.{Stop}
 use Rattle.pool_core.specs.declared.stop.Stop.TheVariants.{PoolFull as FullStop, Budget as BudgetStop}
-use Rattle.pool_core.specs.Begun.{IsBegunFrom, closed_nodes, is_left_open, left_count}
+use Rattle.pool_core.specs.Begun.{closed_nodes, is_left_open, left_count}
 use Rattle.pool_core.specs.Job.{Job, cost_in, start_cost}
 use Rattle.pool_core.specs.Seats.{IsKeptBy, StopsWithin}
 use Rattle.pool_core.specs.Sound.{StopFits}
 use Rattle.pool_core.specs.State.{State, entry_square, squares_of, split_count, unsplit_count, raised_count}
 use Rattle.pool_core.proofs.BegunLemmas.{total-halves, closed_length}
 use Rattle.pool_core.proofs.CountsKept.{length-permutation}
-use Rattle.search_answer.specs.Ending.{Finishes, answer_of, ending_word, offer_of, open_for, split_nodes}
+use Rattle.search_answer.specs.Ending.{answer_of, ending_word, open_for, split_nodes}
 use Rattle.resume_job.specs.Loading.{AreOfValid}
-use Rattle.resume_job.specs.Reopening.{HaveRoom, IsResumption, job_from}
-use Rattle.resume_job.specs.Resumed.{GoesOn, IsResumed, IsResumedBy, LeavesFit, ResumedWorkFits, splits_of, open_leaves_of, closed_leaves_of, closed_since, new_nodes, new_open, new_closed, shown_leases, is_among, is_open_among}
+use Rattle.resume_job.specs.Reopening.{HaveRoom, IsResumption}
+use Rattle.resume_job.specs.Resumed.{GoesOn, IsResumed, IsResumedBy, LeavesFit, ResumedWorkFits, closed_leaves_of, shown_leases, is_among, is_open_among}
 use Rattle.resume_job.proofs.ReopenLemmas.{count_by-marks, start_is}
-use Rattle.resume_job.proofs.GrownLemmas.{IsGrown, IsNoHigher, AreSplitIn, bound_grows, grown, times, tree_of_one}
+use Rattle.resume_job.proofs.GrownLemmas.{IsGrown, IsNoHigher, AreSplitIn, bound_grows, grown, tree_of_one}
 use Rattle.resume_job.proofs.MatchLemmas.{StandOnce, among_count, among_most, stayed_most, stayed_open, still_open, total-filter, total-split, tree_once}
 use Rattle.resume_job.proofs.TurnLemmas.{passes, passing, passed_there}
 

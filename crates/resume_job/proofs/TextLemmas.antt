@@ -1,14 +1,12 @@
 -- The nodes of a valid answer, read from its text.
-use Rattle.std.proofs.Common.{◌≡◌, ℕ, zero, suc, ◌+◌, ◌<◌, ◌≤◌, Bool, true, false, List, [], ◌∷◌, ◌++◌, map, length, codes, Option, None, Some, IfSome, Result, Ok, Err, refl, sym, ap, ◌∙◌, subst, arith}
+use Rattle.std.proofs.Common.{◌≡◌, ℕ, ◌+◌, ◌<◌, ◌≤◌, List, [], ◌∷◌, ◌++◌, map, length, codes, Option, Some, IfSome, Result, Ok, Err, refl, sym, ap, ◌∙◌, subst, arith}
 use Rattle.std.specs.Prelude.{All, slice_get}
-use Rattle.std.specs.Bool.{OnTrue}
 use Rattle.std.proofs.lemmas.List.{append_assoc, append-nil}
 use Rattle.std.proofs.lemmas.List.Elements.{All-head, All-tail}
 use Rattle.port_io.specs.Faults.{Rose}
 use Rattle.siting_definitions.specs.declared.Mark.{Mark}
 use Rattle.siting_definitions.specs.Square.{Square}
 use Rattle.siting_definitions.specs.Sites.{root_of}
-use Rattle.siting_definitions.specs.Tree.{preorder}
 use Rattle.siting_definitions.specs.Marks.{is_split, tally_of}
 use Rattle.siting_definitions.specs.Answer.{Head, Answer, IsMark, IsValid}
 use Rattle.siting_definitions.specs.AnswerText.{answer_text, mark_line}
@@ -19,12 +17,12 @@ use Rattle.discard_log.specs.declared.node.Node.{Node}
 use Rattle.discard_log.specs.Nodes.{mark_of, tree_square}
 use Rattle.answer_model.specs.Nodes.{nodes_in_order, nodes_of}
 use Rattle.answer_model.proofs.NodesLemmas.{valid-nodes}
-use Rattle.line_stream.specs.Coming.{Coming, first_line}
+use Rattle.line_stream.specs.Coming.{Coming}
 use Rattle.certificate.specs.declared.reader.AnswerError.{AnswerError}
 use Rattle.certificate.specs.declared.reader.Item.{Item}
 use Rattle.certificate.specs.declared.reader.Item.TheVariants.{Node as NodeItem}
 use Rattle.certificate.specs.Forms.{item_form}
-use Rattle.certificate.specs.HeadReading.{coming_of, head_reading, in_answer, or_form, formed}
+use Rattle.certificate.specs.HeadReading.{coming_of, head_reading, or_form, formed}
 use Rattle.certificate.specs.ReaderView.{ReadsTo}
 use Rattle.certificate.proofs.MarkForms.{node_back}
 use Rattle.certificate.proofs.AnswerTextLemmas.{text_comes}

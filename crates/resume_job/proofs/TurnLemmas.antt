@@ -1,10 +1,10 @@
 -- Answers that go on from one another, one after the other.
-use Rattle.std.proofs.Common.{◌≡◌, ℕ, zero, suc, ◌+◌, ◌<◌, Bool, true, false, cond, List, [], ◌∷◌, filter, refl, sym, ap, ◌∙◌, subst, ◌⊎◌, inl, inr, length, arith}
+use Rattle.std.proofs.Common.{◌≡◌, ℕ, zero, suc, Bool, true, false, List, [], ◌∷◌, filter, refl, ap, ◌∙◌, ◌⊎◌, inl, inr, arith}
 use Rattle.std.specs.Prelude.{All, Contains, ⊤}
 use Rattle.std.proofs.lemmas.Bool.{cases_Bool, cond-true, cond-false}
 use Rattle.std.proofs.lemmas.List.Elements.{All-contains, All-contains_itself}
 use Rattle.siting_definitions.specs.Marks.{is_split}
-use Rattle.siting_definitions.specs.Answer.{Best, Answer, IsValid, upper_cost}
+use Rattle.siting_definitions.specs.Answer.{Answer, IsValid, upper_cost}
 use Rattle.siting_definitions.proofs.MarkLemmas.{at_most-refl, at_most-trans}
 use Rattle.discard_log.specs.declared.node.Node.{Node}
 use Rattle.answer_model.specs.Nodes.{nodes_of}

@@ -1,6 +1,7 @@
 //! Reopening an answer for a search that goes on from it.
 
 ghost use Rattle.std.specs.Prelude.{◌≡◌, ◌^◌, ◌<◌, ◌≤◌, map, length, option_map, IfOk};
+ghost use Rattle.siting_definitions.specs.declared.TheConstants.{NODE_LIMIT};
 ghost use Rattle.siting_definitions.specs.Answer.{HeadFits};
 ghost use Rattle.siting_definitions.specs.Marks as marks;
 ghost use Rattle.discard_log.specs.Nodes.{mark_of};
@@ -80,7 +81,7 @@ pub fn reopen(
 
 /// How many of the nodes are split, and how many are left open.
 fn counts_of(nodes: &[Node]) -> (u32, u32)
-    requires { length nodes.now ≤ 4000001 }
+    requires { length nodes.now ≤ NODE_LIMIT }
     ensures splits { result.0 ≡ split_count nodes.now }
     ensures open { result.1 ≡ left_count nodes.now }
 {

@@ -25,7 +25,7 @@ use Rattle.pool_core.specs.Job.{Job, IsOffer, job_root, start_cost, cost_in}
 use Rattle.pool_core.specs.State.{State, entry_square, squares_of, raised_count}
 use Rattle.pool_core.specs.Seats.{StopsWithin, IsKeptBy}
 use Rattle.pool_core.specs.Sound as sound
-use Rattle.pool_core.specs.Sound.{StopFits, IsSound, IsFinished}
+use Rattle.pool_core.specs.Sound.{StopFits, IsFinished}
 use Rattle.pool_core.specs.Begun.{left_of}
 use Rattle.search_answer.specs.Ending.{stop_word, ending_word, open_for, offer_of, finished_node, best_by, head_by, answer_of, Finishes}
 use Rattle.search_answer.proofs.FinishedMarks.{TallyFits, tally_fits, marks_fit, squares_same}

@@ -25,9 +25,6 @@ pub record IsTallied (ns : List Node) (t : Tally) : Type 0 where
   pub ranges : All IsMark (map mark_of ns)
   pub tally : t ≡ tally_of (map mark_of ns)
 
-pub tallied-none : (t : Tally) → t ≡ tally_of [] → IsTallied [] t
-tallied-none t e = record { ranges = All-nil IsMark; tally = e }
-
 -- one mark more is counted
 pub tallied-more : (ns : List Node) (i : ℕ) (n : Node) (t s : Tally) → i < length ns → n ≡ get_or ns i n → IsTallied (take i ns) t → IsMark n.mark → s ≡ tally_sum t (tally_of (n.mark ∷ [])) → IsTallied (take (i + 1) ns) s
 tallied-more ns i n t s h at before range sum =

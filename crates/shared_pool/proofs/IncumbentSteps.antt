@@ -20,7 +20,7 @@ use Rattle.objectives.specs.Limits.{IsCost}
 use Rattle.objectives.proofs.SiteSizes.{upper_of-IsCost}
 use Rattle.pool_core.specs.Job.{Job, IsOffer, start_cost, cost_in}
 use Rattle.pool_core.specs.State.{State}
-use Rattle.pool_core.specs.Machine.{Event, Offer}
+use Rattle.pool_core.specs.Machine.{Offer}
 use Rattle.pool_core.specs.Best.{better_of}
 use Rattle.pool_core.specs.Sound.{IsSound}
 use Rattle.shared_pool.specs.declared.view.View.{View}

@@ -1,6 +1,6 @@
 //! Leasing a square.
 
-ghost use Rattle.std.specs.Prelude.{◌≡◌, ◌≢◌, true, false, [], ◌∷◌, None};
+ghost use Rattle.std.specs.Prelude.{◌≡◌, true, false, [], ◌∷◌, None};
 ghost use Rattle.pool_core.specs.State as states;
 ghost use Rattle.std.specs.Option.{ForSome};
 ghost use Rattle.pool_core.specs.PoolAnswers.{LeaseAnswers};

@@ -1,6 +1,6 @@
 //! Demand points, and the sum of their weights.
 
-ghost use Rattle.std.specs.Prelude.{◌≡◌, ◌≤◌, pos, All, length};
+ghost use Rattle.std.specs.Prelude.{◌≡◌, ◌≤◌, pos, All};
 ghost use Rattle.siting_definitions.specs.Instance as instances;
 ghost use Rattle.siting_definitions.specs.Instance.{IsDemandPt, weight};
 ghost use Rattle.siting_definitions.specs.declared.TheConstants.{WEIGHT_LIMIT};

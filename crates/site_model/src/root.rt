@@ -2,7 +2,7 @@
 
 ghost use Rattle.std.specs.Prelude.{◌≡◌, ◌≤◌, length, All, IsTrue};
 ghost use Rattle.std.specs.Float.Ieee.{size};
-ghost use Rattle.siting_definitions.specs.Point.{Place, grid, point_of};
+ghost use Rattle.siting_definitions.specs.Point.{grid, point_of};
 ghost use Rattle.siting_definitions.specs.Square.{holds_closed};
 ghost use Rattle.siting_definitions.specs.Instance.{Instance, IsPolygon};
 ghost use Rattle.siting_definitions.specs.Excluded as excluded;

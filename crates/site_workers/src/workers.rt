@@ -1,6 +1,6 @@
 //! A team of workers over one shared pool.
 
-ghost use Rattle.std.specs.Prelude.{◌≡◌, ◌≤◌, ◌<◌, true, [], length, All, IfOk, MatchOption, ⊤};
+ghost use Rattle.std.specs.Prelude.{◌≡◌, ◌≤◌, ◌<◌, true, [], All, IfOk, MatchOption, ⊤};
 ghost use Rattle.std.specs.Prelude.{vec_len, vec_capacity};
 ghost use denote.Param.Send.{IsSync};
 ghost use Rattle.siting_definitions.specs.Marks.{IsAtMost};

@@ -40,6 +40,9 @@ pub const BUDGET_LIMIT: u32 = 1000000;
 /// The greatest pool: how many squares may be open at once.
 pub const POOL_LIMIT: u32 = 1000000;
 
+/// How many nodes a tree has at most: four more with each square taken up.
+pub const NODE_LIMIT: u32 = 4000001;
+
 /// How many millionths of a cost the gap may be at most.
 pub const PPM_LIMIT: u32 = 1000000;
 
@@ -48,6 +51,15 @@ pub const WORKER_LIMIT: u32 = 64;
 
 /// The greatest seed of a made instance: 2^31 - 1.
 pub const SEED_LIMIT: u32 = 2147483647;
+
+/// How much more than its site a point of a near set may cost at most, in cost units: 2^60.
+pub const SLACK_LIMIT: u64 = 1152921504606846976;
+
+/// How many levels below the root the squares of a near set lie at most.
+pub const DEPTH_LIMIT: u32 = 16;
+
+/// How many squares of a near set are written at most.
+pub const SQUARE_LIMIT: u32 = 1000000;
 
 /// How many bytes of an instance text are read at most.
 pub const INSTANCE_LIMIT: usize = 1048576;

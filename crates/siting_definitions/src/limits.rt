@@ -1,6 +1,6 @@
 //! The numbers of the limits.
 
-ghost use Rattle.std.specs.Prelude.{◌≡◌, ◌+◌, ◌^◌};
+ghost use Rattle.std.specs.Prelude.{◌≡◌, ◌+◌, ◌*◌, ◌^◌};
 ghost use Rattle.siting_definitions.specs.declared.TheConstants as limits;
 
 /// Each limit has its number.
@@ -16,8 +16,12 @@ pub fn limits_have_their_numbers()
     ensures ppm { limits.PPM_LIMIT ≡ 1000000 }
     ensures budget { limits.BUDGET_LIMIT ≡ 1000000 }
     ensures pool { limits.POOL_LIMIT ≡ 1000000 }
+    ensures nodes { limits.NODE_LIMIT ≡ 4 * limits.BUDGET_LIMIT + 1 }
     ensures workers { limits.WORKER_LIMIT ≡ 64 }
     ensures seed { limits.SEED_LIMIT + 1 ≡ 2 ^ 31 }
+    ensures slack { limits.SLACK_LIMIT ≡ 2 ^ 60 }
+    ensures depth { limits.DEPTH_LIMIT ≡ 16 }
+    ensures squares { limits.SQUARE_LIMIT ≡ 1000000 }
     ensures instance_bytes { limits.INSTANCE_LIMIT ≡ 2 ^ 20 }
     ensures check_bytes { limits.CHECK_LIMIT ≡ 2 ^ 30 }
     ensures load_bytes { limits.LOAD_LIMIT ≡ 100000000 }

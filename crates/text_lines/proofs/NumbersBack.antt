@@ -1,5 +1,5 @@
 -- Numbers are read back from what was written of them.
-use Rattle.std.proofs.Common.{◌≡◌, ℕ, zero, suc, ◌+◌, ◌-◌, ◌*◌, ◌/◌, ◌%◌, ◌^◌, ◌<◌, ◌≤◌, eqb, ltb, true, false, ℤ, pos, negsuc, List, [], ◌∷◌, Some, refl, sym, ap, ◌∙◌, arith, rules}
+use Rattle.std.proofs.Common.{◌≡◌, ℕ, zero, suc, ◌+◌, ◌-◌, ◌*◌, ◌/◌, ◌%◌, ◌^◌, ◌<◌, ◌≤◌, eqb, ltb, true, false, ℤ, pos, negsuc, List, [], ◌∷◌, Some, refl, ap, ◌∙◌, arith, rules}
 use Rattle.std.specs.Prelude.{unsigned_abs, fold}
 use Rattle.std.specs.List.{list_all}
 use Rattle.std.specs.Option.{option_map}
@@ -74,9 +74,3 @@ number_of-signed_decimal (pos n) small =
 number_of-signed_decimal (negsuc n) small =
     let written = decimal_is_IsNumeral_wide (suc n) (omega arith) in
     ap (option_map minus) (digits_again (decimal (suc n)) (suc n) written.0 written.1).1
-
--- no text is that of two numbers of at most 64 digits
-pub signed_decimal_injective : (y z : ℤ) → unsigned_abs y < 10 ^ 64 → unsigned_abs z < 10 ^ 64 → signed_decimal y ≡ signed_decimal z → y ≡ z
-signed_decimal_injective y z small_y small_z same =
-    let read : Some y ≡ Some z = sym (number_of-signed_decimal y small_y) ∙ ap number_of same ∙ number_of-signed_decimal z small_z in
-    cc

@@ -119,8 +119,3 @@ rows_back (fields ∷ lines) words =
 -- the fields of the lines of a text that was written of lines of words
 pub rows_of-text_of : (lines : List (List (List ℕ))) → AreWords lines → rows_of (text_of lines) ≡ lines
 rows_of-text_of lines words = rows_back lines words.test
-
--- no text is that of two lists of lines of words
-pub text_of_injective : (lines others : List (List (List ℕ))) → AreWords lines → AreWords others → text_of lines ≡ text_of others → lines ≡ others
-text_of_injective lines others words other_words same =
-    sym (rows_of-text_of lines words) ∙ ap rows_of same ∙ rows_of-text_of others other_words

@@ -3,6 +3,7 @@
 ghost use Rattle.std.specs.Prelude.{◌≡◌, ◌≤◌, ◌+◌, ◌*◌, Option, Some, List, ℕ, IfOk, Ok, map, true};
 ghost use Rattle.std.specs.Prelude.{is_some};
 ghost use Rattle.port_io.specs.MemoryPorts.{sure_taken};
+ghost use Rattle.siting_definitions.specs.declared.TheConstants.{NODE_LIMIT};
 ghost use Rattle.siting_definitions.specs.Answer.{IsValid};
 ghost use Rattle.siting_definitions.specs.AnswerText.{answer_text};
 ghost use Rattle.siting_definitions.specs.Marks.{tally_of};
@@ -129,7 +130,7 @@ fn text_in_memory(alloc: Global, head: &Head, nodes: &NodeList) -> Result<Vec<u8
 
 /// The room for the text of an answer of so many nodes, in bytes.
 fn room_for(nodes: usize) -> usize
-    requires { nodes ≤ 4000001 }
+    requires { nodes ≤ NODE_LIMIT }
     ensures { result ≡ 400000 + 24 * nodes }
 {
     HEAD_ROOM + NODE_ROOM * nodes

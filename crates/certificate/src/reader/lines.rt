@@ -1,6 +1,6 @@
 //! Reading the lines of an answer, one after another.
 
-ghost use Rattle.std.specs.Prelude.{◌≡◌, Some, ok_or};
+ghost use Rattle.std.specs.Prelude.{◌≡◌, ok_or};
 ghost use Rattle.line_stream.specs.Stream.{stream};
 ghost use Rattle.certificate.specs.HeadReading.{formed};
 ghost use Rattle.certificate.specs.Forms.{item_form as form_of_item};

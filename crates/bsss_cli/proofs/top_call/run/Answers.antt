@@ -6,11 +6,20 @@ use Rattle.bsss_cli.proofs.OutcomeLemmas.{Completes-writes}
 use Rattle.bsss_cli.proofs.CommandLemmas.{command_wants}
 use Rattle.bsss_cli.proofs.top_call.run.Goals as goal
 
-pub returns-clause-complete : goal.returns-clause-complete
-returns-clause-complete g c =
+pub returns-then-has_team-clause-complete : goal.returns-then-has_team-clause-complete
+returns-then-has_team-clause-complete g c =
     let told = g.S.Source.left c.args.source.now in
-    let command = c.parse_words.result in
+    let command = c.parse_words-command.result in
     let status = c.run_by_team.result in
-    subst (λ (x : Option Command). Completes (promise_of x) told status) c.parse_words.ensures.value
+    subst (λ (x : Option Command). Completes (promise_of x) told status) c.parse_words-command.ensures.value
     (Completes-writes (promise_of command) told _ _ status (command_wants command told status)
     c.run_by_team.ensures.written)
+
+pub returns-else-has_team-clause-complete : goal.returns-else-has_team-clause-complete
+returns-else-has_team-clause-complete g c =
+    let told = g.S.Source.left c.args.source.now in
+    let command = c.parse_words-command.result in
+    let status = c.run_command.result in
+    subst (λ (x : Option Command). Completes (promise_of x) told status) c.parse_words-command.ensures.value
+    (Completes-writes (promise_of command) told _ _ status (command_wants command told status)
+    c.run_command.ensures.written)

@@ -1,4 +1,4 @@
-use Rattle.std.proofs.Common.{◌≡◌, ◌∙◌, ◌<◌, ap, sym, FitsSigned, to_z, of_z, rules, arith}
+use Rattle.std.proofs.Common.{◌∙◌, ◌<◌, ap, sym, to_z, of_z, rules, arith}
 use mir.Syntax.{w64, w128}
 use Rattle.std.specs.Int.{int_max}
 use Rattle.std.proofs.lemmas.Int.{to_z-of_z, clamps}

@@ -1,4 +1,4 @@
-use Rattle.std.proofs.Common.{◌≡◌, ◌∙◌, ◌-◌, ◌^◌, pos, ◌≤ℤ◌, ap, to_z, of_z, FitsSigned, rules, arith}
+use Rattle.std.proofs.Common.{◌∙◌, ◌^◌, pos, ◌≤ℤ◌, ap, to_z, of_z, rules, arith}
 use mir.Syntax.{w64, w128}
 use Rattle.std.specs.Int.{int_div_euclid}
 use Rattle.std.proofs.lemmas.Int.{to_z-of_z}

@@ -1,4 +1,4 @@
-use Rattle.std.proofs.Common.{◌∙◌, FitsSigned, rules}
+use Rattle.std.proofs.Common.{◌∙◌, rules}
 use mir.Syntax.{w64, w128}
 use Rattle.std.proofs.lemmas.Int.{to_z-of_z}
 use Rattle.centre_bound.proofs.Computed.{weighed-along, weighed-is, straight_small}

@@ -1,4 +1,4 @@
-use Rattle.std.proofs.Common.{◌≡◌, ◌∙◌, ℕ, pos, ◌*◌, sym, ap, subst, FitsSigned, rules, refl, arith, to_z, of_z}
+use Rattle.std.proofs.Common.{◌∙◌, ap, subst, rules, refl, arith}
 use mir.Syntax.{w64, w128}
 use Rattle.std.proofs.lemmas.Int.{to_z-of_z}
 use borrow.Author.Differences.{ints, same_in}

@@ -1,6 +1,5 @@
-use Rattle.std.proofs.Common.{sym, arith, ◌∙◌, ap}
+use Rattle.std.proofs.Common.{sym, arith}
 use borrow.Author.Differences.{ints, same_in}
-use Rattle.siting_definitions.specs.Marks.{lesser}
 use Rattle.siting_definitions.proofs.MarkLemmas.{lesser-none}
 use Rattle.centre_bound.proofs.polish.lesser_with_node.Goals as goal
 

@@ -1,4 +1,4 @@
-use Rattle.std.proofs.Common.{ℕ, ◌+◌, ◌≤◌, List, length, ap, ◌⊎◌, inl, inr, arith}
+use Rattle.std.proofs.Common.{ℕ, ◌+◌, ◌≤◌, List, length, ap, inl, inr, arith}
 use Rattle.std.proofs.lemmas.List.{length-append}
 use Rattle.cert_checker.specs.CheckReading.{IsNeededSoFar}
 use Rattle.cert_checker.proofs.laws.a_check_reads_one_piece_past_its_limit.Goals as goal

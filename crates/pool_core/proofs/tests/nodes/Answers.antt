@@ -1,14 +1,11 @@
-use Rattle.std.proofs.Common.{◌≡◌, ℕ, suc, ◌≤◌, Bool, true, false, cond, ◌==◌, ℤ, pos, ◌+ℤ◌, List, [], ◌∷◌, ◌++◌, map, length, Option, Some, refl, ap, ◌∙◌, subst, rules, arith}
+use Rattle.std.proofs.Common.{◌≡◌, ℕ, suc, ◌≤◌, ℤ, pos, List, [], ◌∷◌, ◌++◌, map, length, Some, refl, ap, ◌∙◌, subst, rules, arith}
 use Rattle.std.specs.List.{All}
 use Rattle.std.specs.List.Sorted.{IsPermutation}
 use Rattle.std.proofs.lemmas.List.Elements.{All-cons}
 use Rattle.std.proofs.lemmas.List.Sorted.{All-permutation, IsPermutation-refl, length_permutation}
 use Rattle.std.proofs.lemmas.List.Sums.{count_by-le-length}
-use Rattle.siting_definitions.specs.declared.Mark.TheVariants.{Split, Shut, Bounded, Floor, Left}
-use Rattle.siting_definitions.specs.Bounds.{fine_of}
-use Rattle.siting_definitions.specs.Excluded.{is_excluded}
-use Rattle.siting_definitions.specs.Instance.{Instance}
-use Rattle.siting_definitions.specs.Marks.{IsCalledFor, MarkFits, MarksFit, is_split, leaf_mark, reaches}
+use Rattle.siting_definitions.specs.declared.Mark.TheVariants.{Split}
+use Rattle.siting_definitions.specs.Marks.{IsCalledFor, MarkFits, MarksFit, leaf_mark}
 use Rattle.siting_definitions.specs.Square.{Square, quarter_of}
 use Rattle.siting_definitions.specs.Tree.{Tree, Leaf, Branch, Fits, preorder}
 use Rattle.siting_definitions.proofs.MarkLemmas.{leaf_unsplit}

@@ -1,5 +1,3 @@
-use Rattle.std.proofs.lemmas.Grind.{common_steps}
-use Rattle.std.proofs.Common.{arith}
 use Rattle.resume_job.proofs.TallyLemmas.{tally_more, tally_small}
 use Rattle.resume_job.proofs.reopening.tally_nodes.Goals as goal
 

@@ -1,0 +1,5 @@
+pub mod FineLemmas
+pub mod CoverLaw
+pub mod ChainLemmas
+pub mod BeyondLemmas
+pub mod VerdictLemmas
