@@ -5,8 +5,8 @@ folder promises is said sentence by sentence, each with what doesn't hold of it.
 """
 
 from collections.abc import Callable, Iterator
+from dataclasses import asdict
 from fractions import Fraction
-from math import hypot
 from pathlib import Path
 from typing import Any, NamedTuple
 
@@ -14,10 +14,9 @@ import pyproj
 
 from .audit_tiles import Tiles, demand, fault_of
 from .exact.chains import permitted
-from .exact.cost import cost
 from .folder import Folder
 from .layers import by_area, read_rings
-from .program import Program
+from .program import Program, for_covers
 from .questions import QUESTIONS
 from .reading import read_problem
 
@@ -29,16 +28,16 @@ SENTENCES = (  # a test, what it says, and which tests have to hold before
     ("problem", "they give the question and the towns that it says", ("report",)),
     ("frame", "each vertex of them is whole in the folder's units", ("problem",)),
     ("cover", "the tiles hold the whole region, and each of its points is in one that counts", ("frame",)),
-    ("pieces", "the pieces of each tile hold each permitted point of it", ("cover",)),
+    ("pieces", "the pieces of each tile hold each permitted point of it{covers}", ("cover",)),
     ("answers", "each answer is to its tile's pieces and towns, and bsss accepts it", ("pieces",)),
     ("bounds", "each tile's bound follows from its answer, with its charges taken anew", ("answers",)),
     ("bound", "no permitted point costs less than {bound}", ("bounds",)),
     ("site", "the site {site} is permitted", ("frame",)),
-    ("cost", "its cost over all towns is from {low} to {high}", ("problem",)),
+    ("cost", "its cost over all towns is from {low} to {high}", ("frame",)),
     ("gap", "it is at most {gap} % from the best, and the answer is {answer}", ("bound", "cost")),
     ("charges", "the difference comes from where it is said to come from", ("bound", "cost")),
-    ("places", "its longitude and latitude, and the nearest and farthest towns, are those that are said", ("problem",)),
-    ("words", "report.txt says the same", ("report",)),
+    ("places", "its longitude and latitude, and the nearest and farthest towns, are those that are said", ("frame",)),
+    ("words", "report.txt says the same", ("problem",)),
 )
 OF_A_SITE = ("site", "cost", "gap", "charges", "places")
 
@@ -61,6 +60,7 @@ class Audit:
     def __init__(self, folder: Path, program: Program):
         self.path, self.program = folder, program
         self.names = {word: f"what is said ({word})" for word in ("bound", "site", "low", "high", "gap", "answer")}
+        self.names["covers"] = ""
         self.said: dict[str, Any] = {}
 
     def sentences(self) -> Iterator[Sentence]:
@@ -86,13 +86,12 @@ class Audit:
         self.said = said = self.folder.figures
         question = QUESTIONS[said["asked"]["question"]]
         demand([said["question"], said["kind"]] == [question.word, question.kind], "the question is another")
-        demand(said["distance"] == "grid", "distances are those of the grid")
         if said["site"] is None:
             empty = said["cost"], said["gap_percent"], said["gap_share_percent"], said["charges"] or None
             demand(empty == (None, None, None, None), "without a site there is no cost and no gap")
         else:
             names = said["bound"], f"{said['site']['x']}, {said['site']['y']}", *said["cost"], said["gap_percent"]
-            self.names = dict(zip(("bound", "site", "low", "high", "gap"), names)) | {"answer": said["answer"]}
+            self.names |= dict(zip(("bound", "site", "low", "high", "gap"), names)) | {"answer": said["answer"]}
 
     def layers(self) -> None:
         changed = self.folder.changed()
@@ -103,6 +102,10 @@ class Audit:
         used = len(read.problem.towns.weights)
         counts = {"read": read.read, "used": used, "left_out": dict(read.left_out)}
         demand(self.said["towns"] == counts, f"the layers have {read.read} towns, of which {used} count")
+        distance = "grid" if read.problem.ground is None else "ground"
+        demand(self.said["distance"] == distance, f"distances are those of the {distance}")
+        demand(self.said["brought"] == [asdict(moved) for moved in read.moved], "layers were brought in another way")
+        demand(self.said["notes"] == read.notes, "the notes on how layers were read are others")
         for name, rings in read.made.items():
             written = read_rings(str(self.path / f"{name}.geojson")).rings
             demand(by_area(written) == by_area(rings), f"{name}.geojson isn't what the layers give")
@@ -114,10 +117,12 @@ class Audit:
 
     def cover(self) -> None:
         self.tiles.cover()
-        self.tiles.look(self.program)
+        self.tiles.look(self.program, for_covers())
 
     def pieces(self) -> None:
         self.of_tiles("pieces")
+        if self.tiles.judged:
+            self.names["covers"] = f", and bsss_cover finds {self.tiles.covered} of {self.tiles.judged} covered"
 
     def answers(self) -> None:
         self.of_tiles("answers")
@@ -144,7 +149,15 @@ class Audit:
     def least(self) -> Fraction:
         """The bound, not rounded, in weight times metres."""
         assert self.tiles.weakest is not None
-        return self.tiles.weakest.value * self.tiles.unit
+        return self.tiles.weakest.value * self.tiles.unit - self.off() - self.borders()
+
+    def off(self) -> Fraction:
+        """How far costs may be off, as towns were brought from another system, in weight times metres."""
+        return self.read.problem.off * self.read.problem.unit
+
+    def borders(self) -> Fraction:
+        """How far the bound may be off, as areas were, in weight times metres."""
+        return self.read.problem.borders * self.read.problem.unit
 
     def place(self) -> tuple[float, float]:
         """The site, as it is written."""
@@ -156,11 +169,7 @@ class Audit:
         return x, y
 
     def site(self) -> None:
-        frame, tiles = self.tiles.frame, self.tiles
-        unit, origin = Fraction(2) ** frame.fine_bits, (frame.x << frame.shift, frame.y << frame.shift)
-        ways = [Fraction(value) * unit - at for value, at in zip(self.place(), origin)]
-        q = max(way.denominator for way in ways)
-        demand(permitted(tiles.region, tiles.forbidden, int(ways[0] * q), int(ways[1] * q), q), "it isn't")
+        demand(permitted(*self.tiles.planes.spot(*self.place())), "it isn't")
 
     def cost(self) -> None:
         low, high = self.costs()
@@ -170,20 +179,17 @@ class Audit:
 
     def costs(self) -> tuple[Fraction, Fraction]:
         """The cost of the site, in weight times metres."""
-        problem = self.read.problem
-        low, high = cost(problem.question.kind, problem.towns, *self.place())
-        return low * problem.unit, high * problem.unit
+        low, high = self.tiles.planes.cost(*self.place())
+        return low * self.read.problem.unit - self.off(), high * self.read.problem.unit + self.off()
 
     def gap(self) -> None:
-        problem, high = self.read.problem, self.costs()[1]
+        high = self.costs()[1]
         gap, size = high - self.least(), abs(high)
         self.percent("gap_percent", gap, size)
         enough = gap <= size * Fraction(self.said["within_percent"]) / 100
         demand(self.said["answer"] == ("within" if enough else "wider"), "the answer isn't what the gap says")
-        if problem.question.kind == "sum":
-            sizes = problem.towns._replace(weights=[abs(weight) for weight in problem.towns.weights])
-            size = cost("sum", sizes, *self.place())[1] * problem.unit
-        self.percent("gap_share_percent", gap, size)
+        whole = Fraction(self.tiles.planes.landscape.size(*self.place())) * self.read.problem.unit
+        self.percent("gap_share_percent", gap, whole)
 
     def percent(self, name: str, part: Fraction, size: Fraction) -> None:
         """That a share is what is said, rounded up."""
@@ -196,8 +202,9 @@ class Audit:
 
     def charges(self) -> None:
         assert self.tiles.weakest is not None
-        names = ("positions", "joined", "cutoffs", "weights")
-        parts = {name: part * self.tiles.unit for name, part in zip(names, self.tiles.weakest.charge)}
+        names = ("positions", "joined", "cutoffs", "weights", "ground")
+        parts = {name: part * self.tiles.unit for name, part in zip(names, self.tiles.weakest.charge, strict=True)}
+        parts["systems"], parts["borders"] = 2 * self.off(), self.borders()
         parts["search"] = self.costs()[1] - self.least() - sum(parts.values())
         for name, said in self.said["charges"].items():
             part = parts.get(name, Fraction(0))
@@ -215,7 +222,7 @@ class Audit:
             authority = crs.to_authority()
             demand(site["crs"] == (":".join(authority) if authority else crs.name), "its reference system is another")
         problem = self.read.problem
-        ways = [hypot(a - x, b - y) * float(problem.unit) for a, b in problem.towns.places]
+        ways = [way * float(problem.unit) for way in self.tiles.planes.landscape.ways(x, y).tolist()]
         for word, order in (("nearest", sorted(ways)), ("farthest", sorted(ways, reverse=True))):
             demand(len(self.said[word]) == min(NEIGHBOURS, len(ways)), f"there are others {word}")
             for row, way in zip(self.said[word], order):
@@ -230,6 +237,7 @@ class Audit:
         if said["site"] is not None:
             wanted.append(f"Site: {said['site']['x']}, {said['site']['y']} ({said['site']['crs']})")
             wanted.append(f"No permitted point costs less than {Fraction(said['bound']) // 1:,}".replace(",", " "))
+        wanted += [*(moved.text() for moved in self.read.moved), *self.read.notes]
         for line in wanted:
             demand(line in lines, f"it doesn't say: {line}")
         demand(said["site"] is not None or not any(line.startswith("Site: ") for line in lines), "it says a site")

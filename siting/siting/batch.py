@@ -15,8 +15,8 @@ from pathlib import Path
 from typing import IO, Any
 
 from .folder import Folder
-from .layers import csv_rows
 from .questions import Refused
+from .tables import csv_rows
 
 TABLE = "table.csv"
 HEAD = ("name", "status", "x", "y", "cost", "bound", "percent", "seconds", "message")

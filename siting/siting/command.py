@@ -64,7 +64,8 @@ def parser() -> argparse.ArgumentParser:
     command = commands.add_parser("compare", help="says what other sites cost, beside an answer")
     command.set_defaults(run=compare_sites)
     command.add_argument("folder", type=Path, metavar="FOLDER", help="that a question wrote")
-    command.add_argument("--site", required=True, nargs="+", type=place, metavar="X,Y", help="in the region's plane")
+    sites = {"action": "extend", "nargs": "+", "type": place, "metavar": "X,Y"}
+    command.add_argument("--site", required=True, help="in the region's plane; --site=X,Y where X is below 0", **sites)
     command.add_argument("--csv", type=Path, metavar="FILE", help="writes the table there as well")
     command.add_argument("--page", type=Path, metavar="FILE", help="writes the answer's page there, with these sites")
     command = commands.add_parser("batch", help="asks a table of questions, and writes a table of answers")
@@ -107,11 +108,13 @@ def add_words(command: argparse.ArgumentParser) -> None:
     add("--grow", type=metres, metavar="LENGTH", help="forbids what is nearer than this to a forbidden area")
     add("--keep-off", type=metres, metavar="LENGTH", help="forbids what is nearer than this to a town")
     add("--out", required=True, type=Path, metavar="FOLDER", help="a folder to be made")
+    add("--progress", action="store_true", help="says in lines on standard error how far it is, also to no terminal")
     add("--maps", action="store_true", help="draws maps as well, and a page with them, report.html")
     add("--within", type=percent, default=Fraction(1, 10), metavar="PERCENT", help="0.1")
     add("--seconds", type=float, metavar="N", help="ends with the best so far, and its bound")
     add("--tiles", type=int, default=200, metavar="N", help="at most so many tiles; 200")
     add("--workers", type=int, default=1, metavar="N", help="of each solve; 1")
+    add("--distance", choices=("grid", "ground"), help="on the layers' grid, or on the ground: of degrees")
     add("--crs", metavar="EPSG:N", help="of layers that don't say theirs")
     add("--bsss", metavar="PATH", help="the program; $BSSS, or the repository's")
 
@@ -149,10 +152,14 @@ def solve(options: argparse.Namespace) -> int:
         raise Refused(f"{options.out} is there already: name another folder, or remove it")
     program = Program(options.bsss)
     until = None if options.seconds is None else time.monotonic() + options.seconds
+    say = teller(options.progress)
+    say("reading")
     read = read_problem(asked(options))
     limits = Limits(options.within, until, options.tiles, options.workers)
-    search = Search(read.problem, program, limits, teller())
+    say("searching")
+    search = Search(read.problem, program, limits, say)
     search.go()
+    say("writing")
     report = Report(read, search, options.within)
     write_folder(options.out, lambda folder: report.write(folder, options.maps))
     print((options.out / "report.txt").read_text(), end="")
@@ -226,11 +233,14 @@ def asked(options: argparse.Namespace) -> Asked:
         crs=options.crs,
         grow=options.grow,
         keep_off=options.keep_off,
+        distance=options.distance,
     )
 
 
-def teller() -> Callable[[str], None]:
-    """Says how far the work is, in one line of a terminal; nothing where there is none."""
+def teller(lines: bool = False) -> Callable[[str], None]:
+    """Says how far the work is: in lines, where these are asked, or in one line of a terminal; else nothing."""
+    if lines:
+        return lambda text: print(f"progress: {text}", file=sys.stderr, flush=True)
     if not sys.stderr.isatty():
         return lambda text: None
     return lambda text: print(f"\r\033[Ksiting: {text}", end="", file=sys.stderr, flush=True)

@@ -11,17 +11,16 @@ from html import escape
 from pathlib import Path
 from typing import Any
 
-import numpy as np
-
 from .exact.chains import permitted
-from .exact.cost import cost
 from .exact.frame import nearest
 from .figures import decimal
-from .layers import Ring, file_of, read_table, rings_of
+from .layers import Ring
 from .page_frame import IN_TEXT, ON_MAP
+from .planes import planes_of
 from .problem import Places, Problem, exact_bits
 from .questions import Refused
 from .reading import Asked, Read, read_problem
+from .tables import file_of
 
 Place = tuple[float, float]
 HEAD = ("site", "x", "y", "permitted", "why not", "cost", "% above the bound", "% above the answer")
@@ -44,11 +43,22 @@ def digest(source: str) -> str:
     return total.hexdigest()
 
 
+def base_of(folder: Path, figures: dict[str, Any]) -> Path:
+    """What the names of the layers are from: as the folder says, or what the folder is in, where they moved with it."""
+    asked, said, beside = figures["asked"], Path(figures["from"]), folder.resolve().parent
+    sources = [asked["towns"], *asked["region"], *asked["forbid"]]
+
+    def all_in(base: Path) -> bool:
+        return all(Path(file_of(str(base / source))[0]).exists() for source in sources)
+
+    return beside if all_in(beside) and not all_in(said) else said
+
+
 def asked_again(folder: Path) -> tuple[Asked, dict[str, Any]]:
     """What was asked of the answer in the folder, with whole paths, and its figures; the layers must be as they were."""
     try:
         figures = json.loads((folder / "report.json").read_text())
-        words, known, base = figures["asked"], figures["digests"], Path(figures["from"])
+        words, known, base = figures["asked"], figures["digests"], base_of(folder, figures)
     except (OSError, ValueError, KeyError) as fault:
         raise Refused(f"{folder} holds no answer") from fault
     for source, said in known.items():
@@ -87,14 +97,14 @@ class Comparison:
         self.asked, self.figures = asked_again(folder)
         self.read: Read = read_problem(self.asked)
         self.problem: Problem = self.read.problem
-        self.places = np.array(self.problem.towns.places, dtype=float).reshape(-1, 2)
+        self.planes = planes_of(self.problem)
         self.areas = list(self.forbidden_areas())
 
     def forbidden_areas(self) -> Iterator[Area]:
         """Each forbidden feature, and what was made of them and of towns."""
-        for source in self.asked.forbid:
-            for row, shape in enumerate(read_table(source, (), self.asked.crs).shapes, 1):
-                yield Area(f"inside feature {row} of {Path(source).name}", list(rings_of(source, row, shape)))
+        for source, features in zip(self.asked.forbid, self.read.forbidden):
+            for row, rings in enumerate(features, 1):
+                yield Area(f"inside feature {row} of {Path(source).name}", list(rings))
         for name, words, length in (
             ("grown", "a forbidden area", self.asked.grow),
             ("kept-off", "a town", self.asked.keep_off),
@@ -115,11 +125,11 @@ class Comparison:
     def row(self, name: str, x: float, y: float) -> dict[str, str]:
         """What is said of a site: its cost in weight times metres, rounded up, and how much more that is than the bound
         and than the answer's cost, in per cent of the answer's."""
-        high = cost(self.problem.question.kind, self.problem.towns, x, y)[1] * self.problem.unit
+        high = (self.planes.cost(x, y)[1] + self.problem.off) * self.problem.unit
         said = [self.figures["bound"], self.figures["cost"] and self.figures["cost"][1]]
         answer = None if said[1] is None else abs(Fraction(said[1]))
         more = ["" if not answer or v is None else percent((high - Fraction(v)) / answer * 100) for v in said]
-        ways = np.hypot(*(self.places - (x, y)).T)
+        ways = self.planes.landscape.ways(x, y)
         towns: list[str] = []
         for number in (int(ways.argmin()), int(ways.argmax())):
             towns += [self.problem.names[number], f"{ways[number] * float(self.problem.unit):.1f}"]
@@ -165,8 +175,8 @@ def write_page(folder: Path, rows: Sequence[dict[str, str]], path: Path) -> None
     svg = text.partition('<svg xmlns="http://www.w3.org/2000/svg" id="map"')[2].partition(">")[0]
     if svg:
         words = dict(part.split("=") for part in svg.split() if part.startswith("data-"))
-        x0, y1, scale = (float(words[f"data-{name}"].strip('"')) for name in ("x", "y", "scale"))
-        marks = "".join(mark(row, (float(row["x"]) - x0) * scale, (y1 - float(row["y"])) * scale) for row in rows[1:])
+        x0, y1, across, down = (float(words[f"data-{name}"].strip('"')) for name in ("x", "y", "across", "down"))
+        marks = "".join(mark(row, (float(row["x"]) - x0) * across, (y1 - float(row["y"])) * down) for row in rows[1:])
         text = text.replace(ON_MAP, marks)
     names = [name for name in HEAD + TOWNS if any(row[name] for row in rows)]
     head = "".join(f"<th>{escape(name)}</th>" for name in names)

@@ -5,7 +5,6 @@ from dataclasses import dataclass
 
 from .exact.cover import Triangle
 from .exact.plane import Box, Point, Ring, Rings, holds, in_units, ring_edges, side
-from .proposals.outer import Outer
 
 LARGEST = 1 << 31  # of a coordinate in size
 MOST_SHIFT = 20
@@ -22,8 +21,9 @@ class Cover:
     shift: int
 
 
-def coarser(cover: Cover, permits: Rings) -> Cover:
-    """The same in units so coarse that its coordinates are at most 2^31, each vertex rounded to the nearest.
+def coarser(cover: Cover, permits: Rings) -> Cover | None:
+    """The same in units so coarse that its coordinates are at most 2^31, each vertex rounded to the nearest; None where
+    no unit is, a length at the most.
 
     Edges that cancel still do. The tile is rounded inward. A flat triangle that rounding turns gets an owner.
     """
@@ -33,7 +33,7 @@ def coarser(cover: Cover, permits: Rings) -> Cover:
     largest = max((max(abs(x), abs(y)) for x, y in vertices), default=0)
     drop = max(0, cover.shift - MOST_SHIFT, (largest // LARGEST).bit_length())
     if drop > cover.shift:
-        raise ValueError("the region is too large for its lengths")
+        return None
     half, mask = 1 << drop >> 1, (1 << drop) - 1
 
     def near(x: int, y: int) -> tuple[int, int]:
@@ -59,9 +59,12 @@ def coarser(cover: Cover, permits: Rings) -> Cover:
     )
 
 
-def cover_text(outer: Outer, region: Rings, forbidden: Rings, tile: Box, shift: int, instance: str) -> str:
-    """The tests of a tile's pieces, before the instance that has these pieces."""
-    cover = coarser(Cover(region, forbidden, outer.triangles, tile, shift), outer.permits)
+def cover_text(exact: Cover, permits: Rings, instance: str) -> str | None:
+    """The tests of a tile's pieces, of which the permitted ones are given, before the instance that has them; None
+    where the tile is too large."""
+    cover = coarser(exact, permits)
+    if cover is None:
+        return None
     lines = ["cover 1", f"shift {cover.shift}", "tile " + numbers((cover.tile[:2], cover.tile[2:]))]
     lines += ["region " + numbers(ring) for ring in cover.region]
     lines += ["forbidden " + numbers(ring) for ring in cover.forbidden]

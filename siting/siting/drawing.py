@@ -5,12 +5,10 @@ from collections.abc import Sequence
 from dataclasses import dataclass
 from math import floor, hypot, log10
 
-import contourpy
 import numpy as np
 import numpy.typing as npt
-from shapely.errors import ShapelyError
-from shapely.geometry import box
 
+from . import geos
 from .layers import turned
 from .proposals.sites import filled
 from .tiles import Search
@@ -28,12 +26,14 @@ HIGHER = (1, 2, 5, 10, 20, 50, 100, 200, 500)  # per cent, of lines of equal cos
 
 @dataclass(frozen=True)
 class View:
-    """The box of the plane that is drawn."""
+    """The box of the layers' coordinates that is drawn, and metres of a unit of them, across and up."""
 
     x0: float
     y0: float
     x1: float
     y1: float
+    across: float
+    up: float
 
     @property
     def width(self) -> float:
@@ -43,15 +43,26 @@ class View:
     def height(self) -> float:
         return self.y1 - self.y0
 
+    @property
+    def ratio(self) -> float:
+        """Of the height to the width, in metres."""
+        return self.height * self.up / (self.width * self.across)
+
+    def detail(self, share: float) -> float:
+        """What is shorter than this share of the width, across and up, in the layers' units."""
+        return share * self.width * min(1.0, self.across / self.up)
+
 
 def view_of(search: Search) -> View:
     """The region with a margin, made wider or higher where it is very narrow."""
     places = np.array([place for ring in search.problem.region for place in ring])
     low, high = places.min(axis=0), places.max(axis=0)
-    width, height = (high - low) + 2 * MARGIN * (high - low).max()
+    middle = (low + high) / 2
+    metres = np.array(search.planes.metres(float(middle[1])))
+    width, height = (high - low) * metres + 2 * MARGIN * ((high - low) * metres).max()
     wide = max(width, height / HIGH)
-    half, middle = np.array([wide, max(height, wide * LOW)]) / 2, (low + high) / 2
-    return View(*(middle - half).tolist(), *(middle + half).tolist())
+    half = np.array([wide, max(height, wide * LOW)]) / 2 / metres
+    return View(*(middle - half).tolist(), *(middle + half).tolist(), *metres.tolist())
 
 
 def thinned(rings: Sequence[Places], tolerance: float) -> list[Floats]:
@@ -72,10 +83,10 @@ def outside(search: Search, view: View) -> list[Places]:
     """The rings of what is in view and not in the region, to be drawn over what reaches beyond it; none where GEOS
     can't tell."""
     try:
-        rest = box(view.x0, view.y0, view.x1, view.y1).difference(filled(search.problem.region))
-    except ShapelyError:
+        rest = geos.less(geos.box(view.x0, view.y0, view.x1, view.y1), filled(search.problem.region))
+    except geos.GeosFault:
         return []
-    return [ring for part in getattr(rest, "geoms", [rest]) if part.geom_type == "Polygon" for ring in turned(part)]
+    return list(turned(rest))
 
 
 def heaviest(search: Search, view: View) -> npt.NDArray[np.int64]:
@@ -105,13 +116,15 @@ class Line:
 
 def equal_costs(search: Search, view: View) -> list[Line]:
     """Lines of equal cost."""
+    import contourpy  # of matplotlib's company: only maps need it
+
     site = search.site
     if site is None:
         return []
     xs, ys = np.linspace(view.x0, view.x1, LINES), np.linspace(view.y0, view.y1, LINES)
     x, y, weights, cutoffs = joined(search, view.width / JOINED)
     parts = np.array_split(np.arange(len(x)), len(x) // 500 + 1)
-    taken = [part_cost(search.kind, xs, ys, x[n], y[n], weights[n], cutoffs[n]) for n in parts if len(n)]
+    taken = [part_cost(search, xs, ys, x[n], y[n], weights[n], cutoffs[n]) for n in parts if len(n)]
     costs = np.max(taken, axis=0) if search.kind == "max" else np.sum(taken, axis=0)
     best = search.landscape.cost(site.x, site.y)
     traced = contourpy.contour_generator(xs, ys, (costs - best) / (abs(best) or 1.0) * 100)
@@ -128,11 +141,11 @@ def labels(lines: Sequence[Line]) -> list[tuple[str, float, float]]:
     return [(f"+{percent} %", float(x), float(y)) for percent, (x, y) in found.items()]
 
 
-def part_cost(kind: str, xs: Floats, ys: Floats, x: Floats, y: Floats, weights: Floats, cutoffs: Floats) -> Floats:
+def part_cost(search: Search, xs: Floats, ys: Floats, x: Floats, y: Floats, weights: Floats, cutoffs: Floats) -> Floats:
     """The cost over some towns at every place of a grid."""
-    ways = np.hypot(xs[None, :, None] - x, ys[:, None, None] - y)
+    ways = search.landscape.between(xs[None, :, None], ys[:, None, None], x, y)
     np.minimum(ways, cutoffs, out=ways)
-    return np.asarray((ways * weights).max(axis=2) if kind == "max" else ways @ weights)
+    return np.asarray((ways * weights).max(axis=2) if search.kind == "max" else ways @ weights)
 
 
 def joined(search: Search, step: float) -> tuple[Floats, Floats, Floats, Floats]:

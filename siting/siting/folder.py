@@ -7,21 +7,24 @@ from fractions import Fraction
 from pathlib import Path
 from typing import Any
 
-from .compare import digest
+from .compare import base_of, digest
 from .exact.bound import Box
 from .exact.charges import Group
 from .exact.cover import Triangle
 from .exact.frame import Frame
 from .exact.plane import Rings
-from .layers import file_of
+from .problem import Made
 from .reading import Asked
+from .tables import file_of
 
 
 @dataclass(frozen=True)
 class Tile:
-    """What was written of a tile: in fine units its box and triangles, in lengths its pieces; its groups and their scale."""
+    """What was written of a tile: its box in shared units; its plane, where it has one of its own; its triangles in fine
+    units and its pieces in lengths; its groups and their scale."""
 
     box: Box
+    plane: Made
     permits: Rings
     forbids: Rings
     triangles: list[Triangle]
@@ -48,7 +51,7 @@ class Folder:
         return Asked(**words)
 
     def whole(self, source: str) -> str:
-        return str(Path(self.figures["from"]) / source)
+        return str(base_of(self.path, self.figures) / source)
 
     def changed(self) -> list[str]:
         """The layers that aren't there, or whose digest isn't that of the folder."""
@@ -64,6 +67,10 @@ class Folder:
         """What was written of a tile beside its answer."""
         proof = json.loads(self.text(f"{number}.proof.json"))
         a, b, c, d = whole_numbers(proof["box"], 4)
+        made: Made = None
+        if proof.get("plane") is not None:
+            x, y, east, north = whole_numbers(proof["plane"], 4)
+            made = x, y, east, north
         permits, forbids = (
             tuple(tuple((x, y) for x, y in (whole_numbers(place, 2) for place in ring)) for ring in proof[word])
             for word in ("permits", "forbids")
@@ -72,7 +79,7 @@ class Folder:
         triangles = [((t[0], t[1]), (t[2], t[3]), (t[4], t[5]), t[6]) for t in rows]
         groups = [group_of(row) for row in proof.get("groups", [])]
         (scale,) = whole_numbers([proof.get("scale", 1)], 1)
-        return Tile((a, b, c, d), permits, forbids, triangles, groups, scale)
+        return Tile((a, b, c, d), made, permits, forbids, triangles, groups, scale)
 
     def parts(self, number: int) -> list[int]:
         """The numbers of the tiles that a tile's parts are."""

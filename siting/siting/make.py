@@ -8,8 +8,8 @@ from pathlib import Path
 from random import Random
 
 from osgeo import gdal
-from shapely.geometry import Point, Polygon
 
+from . import geos
 from .layers import write_areas
 
 Place = tuple[float, float]
@@ -93,7 +93,7 @@ def outline(random: Random, x: float, y: float, radius: float, count: int, bay: 
 
 def spots(random: Random, shore: Ring, count: int) -> list[tuple[float, float, float]]:
     """Middles and radii of discs inside the shore that don't meet, of this number or as many as there is room for."""
-    district = Polygon(shore)
+    district = geos.areas([[shore]])
     found: list[tuple[float, float, float]] = []
     largest = 0.08 if count <= 20 else 0.36 / sqrt(count)
     for _ in range(400 * count):
@@ -102,7 +102,7 @@ def spots(random: Random, shore: Ring, count: int) -> list[tuple[float, float, f
         x, y = (value + random.uniform(-0.8, 0.8) * RADIUS for value in MIDDLE)
         radius = RADIUS * random.uniform(0.2, 1) * largest
         alone = all((x - a) ** 2 + (y - b) ** 2 > (1.1 * (radius + r)) ** 2 for a, b, r in found)
-        if alone and district.contains(Point(x, y).buffer(1.1 * radius)):
+        if alone and district.Contains(geos.grown(geos.point(x, y), 1.1 * radius)):
             found.append((x, y, radius))
     return found
 

@@ -31,6 +31,7 @@ from .drawing import (
     view_of,
 )
 from .near import NearSet
+from .package import corners
 from .palette import BOUNDS, NEAR, SITE
 from .squares import Bounded
 from .tiles import Search
@@ -62,7 +63,7 @@ class Sheet:
 
     def rings(self, rings: Sequence[Sequence[tuple[float, float]]], name: str, **style: object) -> PathPatch:
         """The area of rings, without detail that can't be seen: holes go the other way round."""
-        closed = [np.vstack([ring, ring[:1]]) for ring in thinned(rings, DETAIL * self.view.width / WIDTH)]
+        closed = [np.vstack([ring, ring[:1]]) for ring in thinned(rings, self.view.detail(DETAIL / WIDTH))]
         path = Outline.make_compound_path(*(Outline(ring, closed=True) for ring in closed))
         patch = PathPatch(path if closed else Outline(np.empty((0, 2))), gid=name, **style)
         self.axes.add_artist(patch)
@@ -108,11 +109,8 @@ def squares_map(search: Search, found: Sequence[Bounded], title: str) -> Figure:
     above = np.array([float((value - top) / (abs(top) or 1)) * 100 for *_, value in found])
     kind = np.searchsorted([low for low, *_ in BOUNDS], above, side="right") - 1
     colours = np.array([colour for *_, colour in BOUNDS])[kind]
-    side, origin = float(search.frame.grid_unit()), [float(value) for value in search.frame.plane(0, 0)]
-    low = np.array([(s.x, s.y) for _, s, _ in found], dtype=float).reshape(-1, 1, 2)
-    sides = np.array([s.side for _, s, _ in found], dtype=float).reshape(-1, 1, 1)
-    corners = origin + side * (low + sides * np.array([(0, 0), (1, 0), (1, 1), (0, 1)]))
-    shades = PolyCollection(corners, facecolors=colours, edgecolors="0.45", linewidths=0.1, zorder=2)
+    drawn = np.array([corners(search, tile, square) for tile, square, _ in found]).reshape(-1, 4, 2)
+    shades = PolyCollection(drawn, facecolors=colours, edgecolors="0.45", linewidths=0.1, zorder=2)
     shades.set_gid("squares")
     shades.set_rasterized(len(found) > AS_PICTURE)
     sheet.axes.add_collection(shades, autolim=False)
@@ -127,7 +125,7 @@ def empty(search: Search, title: str) -> Sheet:
     """A figure as wide as a page, with room for title and legend."""
     view = view_of(search)
     width = WIDTH - 2 * SIDE
-    height = width * view.height / view.width
+    height = width * view.ratio
     figure = Figure(figsize=(WIDTH, height + TOP + BOTTOM))
     tall = height + TOP + BOTTOM
     axes = figure.add_axes((SIDE / WIDTH, BOTTOM / tall, width / WIDTH, height / tall), xticks=[], yticks=[])
@@ -174,7 +172,7 @@ def towns(sheet: Sheet) -> Entries:
     land, drawn = search.landscape, heaviest(search, sheet.view)
     weights = np.abs(land.weights[drawn])
     most = weights.max(initial=0)
-    room = COVERED * (72 * WIDTH) ** 2 * sheet.view.height / sheet.view.width
+    room = COVERED * (72 * WIDTH) ** 2 * sheet.view.ratio
     largest = min(LARGEST, (room / max(1, (weights / most).sum())) ** 0.5) if most else 0
     shape = {"markerfacecolor": "white", "markeredgecolor": "black", "linestyle": "none"}
     for marker, sign, label in (("o", 1, "town"), ("v", -1, "town to be far from")):
@@ -204,14 +202,14 @@ def star(sheet: Sheet) -> Entries:
 
 def finished(sheet: Sheet, entries: Entries, note: str) -> Figure:
     """With a scale bar, north, a legend, and a note below."""
-    view, axes, unit = sheet.view, sheet.axes, float(sheet.search.problem.unit)
-    metres = round_length(view.width * unit / 4)
-    left, base = view.x0 + 0.03 * view.width, view.y0 + 0.025 * view.width
-    places = [left, left + metres / unit], [base, base]
+    view, axes = sheet.view, sheet.axes
+    metres = round_length(view.width * view.across / 4)
+    left, base, long = view.x0 + 0.03 * view.width, view.y0 + 0.025 * view.height / view.ratio, metres / view.across
+    places = [left, left + long], [base, base]
     (bar,) = axes.plot(*places, color="black", linewidth=2.5, solid_capstyle="butt", zorder=7)
     bar.set_gid("scale-bar")
     words = {"textcoords": "offset points", "ha": "center", "zorder": 7}
-    axes.annotate(length_words(metres), (left + metres / unit / 2, base), (0, 3), **words)
+    axes.annotate(length_words(metres), (left + long / 2, base), (0, 3), **words)
     arrow = {"arrowstyle": "-|>", "color": "black"}
     axes.annotate("", (0.97, 0.98), (0.97, 0.92), xycoords="axes fraction", arrowprops=arrow, zorder=7)
     north = axes.annotate("N", (0.97, 0.90), xycoords="axes fraction", ha="center", va="center", zorder=7)

@@ -13,12 +13,12 @@ from os import cpu_count
 
 import numpy as np
 import numpy.typing as npt
-from shapely.geometry import LinearRing, MultiPolygon, box
-from shapely.ops import unary_union
 
+from . import geos
 from .exact.answers import Square
 from .exact.bound import Box
-from .exact.frame import GRID
+from .layers import turned
+from .planes import Planes
 from .tiles import Run, Search, TestFailed
 
 PERCENTS = (1, 2, 5, 10, 20)
@@ -33,8 +33,8 @@ Ring = list[tuple[float, float]]
 
 @dataclass(frozen=True)
 class NearSet:
-    """The closed cells that are true: the first lies `x` and `y` cells from the plane's origin, `side` is a cell's in
-    the plane's units, a power of two."""
+    """The closed cells that are true: the first lies `x` and `y` cells from the layers' origin, `side` is a cell's in
+    the layers' units, a power of two."""
 
     percent: int
     cells: Cells
@@ -42,21 +42,24 @@ class NearSet:
     y: int
     side: Fraction
 
-    @property
-    def area(self) -> Fraction:
-        """Of all cells, in the plane's units squared."""
-        return int(self.cells.sum()) * self.side**2
+    def square_metres(self, planes: Planes) -> Fraction:
+        """The area of all cells."""
+        rows = [(Fraction(self.y + j), int(count)) for j, count in enumerate(self.cells.sum(axis=1)) if count]
+        return sum(
+            (planes.square_metres(y * self.side, (y + 1) * self.side, count * self.side) for y, count in rows),
+            Fraction(0),
+        )
 
     @cached_property
     def polygons(self) -> list[list[Ring]]:
-        """The same set as polygons, each an outer ring and its holes, in the plane: exactly."""
+        """The same set as polygons, each an outer ring and its holes, in the layers' units: exactly."""
         return [
             [[self.place(*corner) for corner in ring] for ring in rings]
             for rings in checked(outlines(self.cells), self.cells)
         ]
 
     def place(self, i: int, j: int) -> tuple[float, float]:
-        """A cell's lower left corner, in the plane."""
+        """A cell's lower left corner, in the layers' units."""
         return float((self.x + i) * self.side), float((self.y + j) * self.side)
 
 
@@ -77,23 +80,21 @@ def near_sets(search: Search) -> list[NearSet]:
             if given == percent:
                 boxes += clipped(search, run, squares)
         if boxes:
-            sets.append(in_cells(percent, boxes, search.frame.grid_unit()))
+            sets.append(in_cells(percent, boxes, search.planes.unit))
     return sets
 
 
 def clipped(search: Search, run: Run, squares: Iterable[Square]) -> Iterator[Box]:
-    """What the tile has of each square, in grid units from the plane's origin, rounded outward to whole ones."""
-    bits, x, y = search.bits, search.frame.x << GRID, search.frame.y << GRID
-    low = run.tile[0] >> bits, run.tile[1] >> bits
-    high = -(-run.tile[2] >> bits), -(-run.tile[3] >> bits)
-    for s in squares:
-        x0, y0 = max(s.x, low[0]), max(s.y, low[1])
-        yield x + x0, y + y0, x + max(x0, min(s.x + s.side, high[0])), y + max(y0, min(s.y + s.side, high[1]))
+    """Boxes that hold what the tile has of each square, in shared units from the layers' origin."""
+    x, y = search.planes.origin
+    for square in squares:
+        x0, y0, x1, y1 = search.hull(run, [square])
+        yield x + x0, y + y0, x + max(x0, x1), y + max(y0, y1)
 
 
 def in_cells(percent: int, boxes: Sequence[Box], unit: Fraction) -> NearSet:
     """The set of all cells that the boxes reach into, or touch where a box has no inside. Cells are multiples of their
-    side, which is so many grid units, a power of two, that the set is at most ACROSS cells and one wide and high, and
+    side, which is so many units, a power of two, that the set is at most ACROSS cells and one wide and high, and
     that doubles hold their corners."""
     low = min(b[0] for b in boxes), min(b[1] for b in boxes)
     high = max(b[2] for b in boxes), max(b[3] for b in boxes)
@@ -124,18 +125,9 @@ def outlines(cells: Cells) -> list[list[list[tuple[int, int]]]]:
     for row, line in enumerate(np.pad(cells, ((0, 0), (1, 1))).astype(np.int8)):
         steps = np.diff(line)
         for a, b in zip(np.flatnonzero(steps == 1).tolist(), np.flatnonzero(steps == -1).tolist()):
-            strips.append(box(a, row, b, row + 1))
-    union = unary_union(strips)
-    parts = union.geoms if isinstance(union, MultiPolygon) else [union]
-    return [
-        [whole(ring, number == 0) for number, ring in enumerate([part.exterior, *part.interiors])] for part in parts
-    ]
-
-
-def whole(ring: LinearRing, counter_clockwise: bool) -> list[tuple[int, int]]:
-    """A ring in whole numbers, turned as asked, its start left out at the end."""
-    places = [(round(x), round(y)) for x, y in ring.coords[:-1]]
-    return places if ring.is_ccw == counter_clockwise else places[::-1]
+            strips.append(geos.box(a, row, b, row + 1))
+    parts = geos.parts(geos.joined(strips))
+    return [[[(round(x), round(y)) for x, y in ring] for ring in turned(part)] for part in parts]
 
 
 def checked(polygons: list[list[list[tuple[int, int]]]], cells: Cells) -> list[list[list[tuple[int, int]]]]:

@@ -6,11 +6,10 @@ from math import floor, inf, nextafter
 from typing import Any
 
 import numpy as np
-from shapely.errors import ShapelyError
-from shapely.geometry import box
 
-from . import styles
+from . import geos, styles
 from .drawing import MARGIN
+from .exact.answers import Square
 from .exact.frame import GRID
 from .geopackage import Area, Layer, Place
 from .layers import turned
@@ -46,8 +45,7 @@ def site_layer(search: Search, row: dict[str, Any] | None) -> Layer:
 
 def near_layer(search: Search, near: Sequence[NearSet]) -> Layer:
     """The near sets, the largest first, so that the smaller ones are drawn over it."""
-    unit = search.problem.unit**2
-    rows = [(found.percent, float(found.area * unit)) for found in reversed(near)]
+    rows = [(found.percent, float(found.square_metres(search.planes))) for found in reversed(near)]
     words = "Each area holds every permitted place that costs at most so many per cent more than the site: proved"
     entries = [(percent, f"within {percent} %", styles.area(rgb(NEAR[percent]), "solid")) for percent in NEAR]
     drawn = {"near sets": styles.by_value("percent", entries)}
@@ -68,10 +66,9 @@ def barred(search: Search) -> Layer:
     low, high = places.min(axis=0), places.max(axis=0)
     margin = 2 * MARGIN * float((high - low).max())
     try:
-        area = box(*(low - margin), *(high + margin)).difference(search.permitted.area)
-        parts = getattr(area, "geoms", [area])
-        shapes: list[Area] = [[list(turned(part)) for part in parts if part.geom_type == "Polygon"]]
-    except ShapelyError:
+        area = geos.less(geos.box(*(low - margin).tolist(), *(high + margin).tolist()), search.permitted.area)
+        shapes: list[Area] = [[list(turned(part)) for part in geos.parts(area)]]
+    except geos.GeosFault:
         shapes = []
     return Layer("not_permitted", words, {}, shapes, [()] * len(shapes), drawn)
 
@@ -84,7 +81,7 @@ def towns(search: Search) -> Layer:
     ways: list[float | None] = [None] * count
     shares: list[float | None] = [None] * count
     if site is not None:
-        ways = (np.hypot(land.x - site.x, land.y - site.y) * metres).tolist()
+        ways = (land.ways(site.x, site.y) * metres).tolist()
         size = land.size(site.x, site.y)
         shares = (np.abs(land.terms(site.x, site.y)) / size * 100).tolist() if size else [0.0] * count
     rows = list(zip(search.problem.names, land.weights.tolist(), ways, shares))
@@ -101,7 +98,7 @@ def squares(search: Search, found: Sequence[Bounded]) -> Layer:
     for tile, _, value in found:
         above = None if not top else floor((value - top) / abs(top) * 10**8) / 10**6
         rows.append((tile, below(value * unit), above))
-    shapes = [[[corners(search, s.x, s.y, s.x + s.side, s.y + s.side)]] for _, s, _ in found]
+    shapes = [[[corners(search, tile, s)]] for tile, s, _ in found]
     words = "No permitted place of the tile in a square costs less than its bound, in weight times metres: proved"
     ranges = [(low, high, label, styles.area(rgb(colour), "solid")) for low, high, label, colour in BOUNDS]
     drawn = {"bounds": styles.by_range("above_site_percent", ranges), "nothing": styles.nothing()}
@@ -118,7 +115,7 @@ def pieces(search: Search) -> Layer:
         for kind, rings in (("permit", run.outer.permits), ("forbid", run.outer.forbids)):
             for ring in rings:
                 rows.append((number, kind))
-                shapes.append([[[corner(search, x << GRID, y << GRID) for x, y in ring]]])
+                shapes.append([[[corner(search, number, x << GRID, y << GRID) for x, y in ring]]])
     words = "Each permitted place of a tile is in one of its permits and inside none of its forbids: proved"
     kinds = [("permit", "permit", "horizontal"), ("forbid", "forbid", "b_diagonal")]
     entries = [(kind, label, styles.area(styles.grey(0.4), "solid", brush)) for kind, label, brush in kinds]
@@ -126,12 +123,12 @@ def pieces(search: Search) -> Layer:
     return Layer("pieces", words, {"tile": "INTEGER", "kind": "TEXT"}, shapes, rows, drawn)
 
 
-def corners(search: Search, x0: int, y0: int, x1: int, y1: int) -> list[Place]:
-    """The corners of a box of grid units, in the plane."""
-    return [corner(search, *place) for place in ((x0, y0), (x1, y0), (x1, y1), (x0, y1))]
+def corners(search: Search, tile: int, square: Square) -> list[Place]:
+    """The corners of a square of a tile's answer, in the layers' coordinates."""
+    x, y, side = square[:3]
+    return [corner(search, tile, *place) for place in ((x, y), (x + side, y), (x + side, y + side), (x, y + side))]
 
 
-def corner(search: Search, x: int, y: int) -> Place:
-    """A place in grid units as the nearest doubles of the plane."""
-    a, b = search.frame.plane(x, y)
-    return float(a), float(b)
+def corner(search: Search, tile: int, x: int, y: int) -> Place:
+    """A place in grid units of a tile's plane as the nearest doubles of the layers' coordinates."""
+    return search.runs[tile - 1].plane.place(*search.frame.plane(x, y))

@@ -14,6 +14,7 @@ import numpy as np
 
 from .drawing import View, equal_costs, heaviest, labels, length_words, round_length, thinned, town_words, view_of
 from .near import NearSet
+from .package import corners
 from .page_frame import FRAME, IN_TEXT, ON_MAP
 from .palette import BOUNDS, NEAR
 from .squares import Bounded
@@ -46,11 +47,17 @@ class Paper:
 
     @property
     def height(self) -> float:
-        return round(WIDTH * self.view.height / self.view.width, 2)
+        return round(WIDTH * self.view.ratio, 2)
+
+    @property
+    def scale(self) -> tuple[float, float]:
+        """The map's units for one of the layers, across and down."""
+        across = WIDTH / self.view.width
+        return across, across * self.view.up / self.view.across
 
     def at(self, x: float, y: float) -> tuple[float, float]:
-        scale = WIDTH / self.view.width
-        return round((x - self.view.x0) * scale, 2), round((self.view.y1 - y) * scale, 2)
+        across, down = self.scale
+        return round((x - self.view.x0) * across, 2), round((self.view.y1 - y) * down, 2)
 
     def path(self, rings: Iterable[Places], close: str = "Z") -> str:
         """The words of a path."""
@@ -82,7 +89,7 @@ def write_page(page: Page, path: Path) -> None:
 def drawing(page: Page) -> dict[str, str]:
     """The map and the switches of its layers."""
     search, paper = page.search, Paper(view_of(page.search))
-    detail = paper.view.width / WIDTH / 2
+    detail = paper.view.detail(0.5 / WIDTH)
     land = paper.path(thinned(search.problem.region, detail))
     layers: list[tuple[str, str, str, bool]] = []  # name, words, drawing, whether it is on
     for found in reversed(page.near):
@@ -112,18 +119,19 @@ def drawing(page: Page) -> dict[str, str]:
 
 def whole(search: Search, paper: Paper, inner: str) -> str:
     """The map: its layers, other sites, the site, a scale bar and north. Its words say how the plane lies on it."""
-    view, unit = paper.view, float(search.problem.unit)
+    view = paper.view
     assert search.site is not None
     x, y = paper.at(search.site.x, search.site.y)
     turns = np.arange(10) * np.pi / 5 - np.pi / 2
     tips = zip(x + np.array([15, 6] * 5) * np.cos(turns), y + np.array([15, 6] * 5) * np.sin(turns))
     star = " ".join(f"{a:.2f},{b:.2f}" for a, b in tips)
-    metres = round_length(view.width * unit / 4)
-    long, base = metres / unit * WIDTH / view.width, paper.height - 18
+    metres = round_length(view.width * view.across / 4)
+    long, base = metres / view.across * WIDTH / view.width, paper.height - 18
     bar = f'<path d="M30 {base}h{long:.2f}" stroke="#000" stroke-width="5"/>'
     words = f'<text x="{30 + long / 2:.2f}" y="{base - 8}" text-anchor="middle">{length_words(metres)}</text>'
     north = '<path d="M970 45V18M964 27l6 -12l6 12z" stroke="#000"/><text x="970" y="62" text-anchor="middle">N</text>'
-    lies = f'data-x="{view.x0!r}" data-y="{view.y1!r}" data-scale="{WIDTH / view.width!r}"'
+    across, down = paper.scale
+    lies = f'data-x="{view.x0!r}" data-y="{view.y1!r}" data-across="{across!r}" data-down="{down!r}"'
     return (
         f'<svg xmlns="http://www.w3.org/2000/svg" id="map" viewBox="0 0 {WIDTH} {paper.height:g}" {lies} '
         f'role="group" aria-label="map of the region, with the site">\n{inner}<g id="others">{ON_MAP}</g>\n'
@@ -158,14 +166,15 @@ def towns(search: Search, paper: Paper) -> tuple[str, str]:
     assert site is not None
     drawn = heaviest(search, paper.view)
     terms, size = land.terms(site.x, site.y), land.size(site.x, site.y) or 1.0
+    ways = land.ways(site.x, site.y) * unit / 1000
     weights = np.abs(land.weights[drawn])
     most = float(weights.max(initial=0)) or 1.0
     largest = min(LARGEST, (COVERED * WIDTH * paper.height / max(1, (weights / most).sum()) / 4) ** 0.5)
     marks = []
     for number in drawn.tolist():
-        weight, way = float(land.weights[number]), float(np.hypot(land.x[number] - site.x, land.y[number] - site.y))
+        weight, way = float(land.weights[number]), float(ways[number])
         share = abs(float(terms[number])) / size * 100
-        told = f"{search.problem.names[number]}: weight {weight:.12g}, {way * unit / 1000:.3f} km from the site, "
+        told = f"{search.problem.names[number]}: weight {weight:.12g}, {way:.3f} km from the site, "
         told += f"{share:.3g} % of all weight times distance"
         radius = max(SMALLEST, largest * (abs(weight) / most) ** 0.5)
         marks.append(mark(*paper.at(float(land.x[number]), float(land.y[number])), radius, weight > 0, told))
@@ -186,16 +195,15 @@ def squares(page: Page, paper: Paper) -> str:
     """The squares by their bounds, a path for each shade."""
     search = page.search
     assert search.site is not None
-    top, side = search.site.high / search.unit, float(search.frame.grid_unit())
-    origin = [float(value) for value in search.frame.plane(0, 0)]
-    scale = WIDTH / paper.view.width
+    top = search.site.high / search.unit
     parts: list[list[str]] = [[] for _ in BOUNDS]
     shade: Callable[[float], int] = lambda above: sum(low <= above for low, *_ in BOUNDS) - 1
-    for _, s, value in page.squares:
-        x, y = paper.at(origin[0] + s.x * side, origin[1] + (s.y + s.side) * side)
-        long = round(s.side * side * scale, 2)
+    for tile, square, value in page.squares:
+        low, _, high, _ = corners(search, tile, square)
+        (x, bottom), (right, y) = paper.at(*low), paper.at(*high)
+        wide, tall = round(right - x, 2), round(bottom - y, 2)
         above = float((value - top) / (abs(top) or 1)) * 100
-        parts[shade(above)].append(f"M{x:g} {y:g}h{long:g}v{long:g}h{-long:g}z")
+        parts[shade(above)].append(f"M{x:g} {y:g}h{wide:g}v{tall:g}h{-wide:g}z")
     return "".join(
         f'<path d="{"".join(part)}" fill="{colour}" stroke="#777" stroke-width=".3"><title>{label}</title></path>'
         for part, (*_, label, colour) in zip(parts, BOUNDS)

@@ -1,4 +1,4 @@
-"""Finds `bsss` and runs it."""
+"""Finds `bsss` and `bsss_cover`, and runs them."""
 
 import os
 import shutil
@@ -11,8 +11,10 @@ from pathlib import Path
 from .questions import Refused
 
 BUILT = Path(__file__).resolve().parents[2] / "crates" / "bsss" / "out" / "bsss"
+COVERS = BUILT.parents[2] / "bsss_cover" / "out" / "bsss_cover"
 ANSWERS = (0, 10, 11, 12, 13)  # the statuses of a solve that writes an answer
 NEAR = (0, 17)  # those of a near set that is written, or too large to be
+COVERED = (0, 3, 5, 9)  # those of a cover that was judged
 
 
 class OutOfTime(Exception):
@@ -20,7 +22,7 @@ class OutOfTime(Exception):
 
 
 class Program:
-    """The program, at its path."""
+    """A program, at its path: `bsss`, where none is named."""
 
     def __init__(self, path: str | None = None):
         self.path = find(path)
@@ -52,6 +54,12 @@ class Program:
                 raise RuntimeError(f"{self.path} {' '.join(words)} ended with {child.returncode}")
             sink.seek(0)
             return sink.read().decode("ascii")
+
+
+def for_covers() -> Program | None:
+    """`bsss_cover`, where the repository has built it, or it is on the path."""
+    found = str(COVERS) if COVERS.is_file() else shutil.which("bsss_cover")
+    return Program(found) if found else None
 
 
 def pause(child: "subprocess.Popen[bytes]") -> None:

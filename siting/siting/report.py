@@ -3,6 +3,7 @@
 import json
 import os
 from collections import Counter
+from dataclasses import asdict
 from fractions import Fraction
 from functools import cached_property
 from math import floor
@@ -13,11 +14,11 @@ import numpy as np
 import pyproj
 
 from .compare import digests
+from .cover_text import Cover, cover_text
 from .exact.bound import Least
 from .figures import decimal, thousands
 from .layers import by_area, write_areas
 from .geopackage import write_package
-from .maps import write_maps
 from .near import NearSet, near_sets
 from .package import below, layers_of
 from .page import Page, write_page
@@ -38,8 +39,9 @@ class Report:
         self.problem: Problem = read.problem
         self.metres = self.problem.unit
         site, bound = search.site, search.bound()
-        self.bound = None if bound is None else bound * self.metres
-        self.cost = None if site is None else (site.low * self.metres, site.high * self.metres)
+        off = self.problem.off
+        self.bound = None if bound is None else (bound - off - self.problem.borders) * self.metres
+        self.cost = None if site is None else ((site.low - off) * self.metres, (site.high + off) * self.metres)
         self.answer = NO_SITE if self.bound is None else WIDER
         self.gap: Fraction | None = None
         if self.cost is not None and self.bound is not None:
@@ -89,8 +91,9 @@ class Report:
             "joined": least.charge.joined * unit,
             "cutoffs": least.charge.cutoffs * unit,
             "weights": least.charge.weights * unit,
-            "borders": Fraction(0),
-            "ground": Fraction(0),
+            "borders": self.problem.borders * self.metres,
+            "ground": least.charge.ground * unit,
+            "systems": 2 * self.problem.off * self.metres,
         }
         return {"search": self.cost[1] - self.bound - sum(named.values()), **named}
 
@@ -116,7 +119,7 @@ class Report:
         site, land = self.search.site, self.search.landscape
         if site is None:
             return {}
-        ways = np.hypot(land.x - site.x, land.y - site.y)
+        ways = land.ways(site.x, site.y)
         order = np.argsort(ways, kind="stable")
 
         def town(number: int) -> dict[str, Any]:
@@ -131,13 +134,13 @@ class Report:
     def tiles(self) -> list[dict[str, Any]]:
         """The tiles in the order of their solving, with the names of their texts."""
         numbers = {id(run): number for number, run in enumerate(self.search.runs, 1)}
-        unit = self.search.unit * self.metres
+        unit, off = self.search.unit * self.metres, (self.problem.off + self.problem.borders) * self.metres
         rows = []
         for number, run in enumerate(self.search.runs, 1):
             row: dict[str, Any] = {"tile": number, "box": self.box(run)}
             if run.solved:
                 row |= {"instance": f"{number}.siting", "answer": f"{number}.answer"}
-            row["bound"] = None if run.least is None else decimal(run.least.value * unit, 6)
+            row["bound"] = None if run.least is None else decimal(run.least.value * unit - off, 6)
             if run.parts:
                 row["parts"] = [numbers[id(part)] for part in run.parts]
                 row["cut"] = run.cut
@@ -146,29 +149,27 @@ class Report:
 
     def box(self, run: Run) -> list[float]:
         """A tile's box in the layers' plane."""
-        low = self.search.to_doubles(run.tile[0], run.tile[1])
-        high = self.search.to_doubles(run.tile[2], run.tile[3])
-        return [*low, *high]
+        return self.search.planes.doubles(run.tile)
 
     def share(self) -> Fraction | None:
         """The gap as a share of the sum of all weights times distances, in per cent."""
         site = self.search.site
         if site is None or self.cost is None or self.bound is None:
             return None
-        size = Fraction(self.search.landscape.size(site.x, site.y)) * self.metres
+        size = Fraction(site.size) * self.metres
         return (self.cost[1] - self.bound) / size * 100 if size else None
 
     def figures(self) -> dict[str, Any]:
         """report.json."""
         left_out: Counter[str] = self.read.left_out
         gap, share = self.gap, self.share()
-        near = {near.percent: float(near.area * self.metres**2) for near in self.near}
+        near = {near.percent: float(near.square_metres(self.search.planes)) for near in self.near}
         return {
             "question": self.problem.question.word,
             "kind": self.problem.question.kind,
             "answer": self.answer,
             "site": self.place(),
-            "distance": "grid",
+            "distance": "grid" if self.problem.ground is None else "ground",
             "cost": self.cost and [decimal(self.cost[0], 6), decimal(self.cost[1], 6, up=True)],
             "bound": None if self.bound is None else decimal(self.bound, 6),
             "gap_percent": None if gap is None else float(decimal(gap, 6, up=True)),
@@ -185,6 +186,8 @@ class Report:
             **self.neighbours(),
             "from": os.getcwd(),
             "asked": self.read.asked.figures(),
+            "brought": [asdict(moved) for moved in self.read.moved],
+            "notes": self.read.notes,
             "digests": digests(self.read.asked),
             "frame": self.search.frame,
             "tiles": self.tiles(),
@@ -203,25 +206,23 @@ class Report:
     def text(self, figures: dict[str, Any]) -> str:
         """report.txt."""
         lines = [self.problem.question.title, ""]
+        read = [*(moved.text() for moved in self.read.moved), *self.read.notes]
         if self.answer == NO_SITE:
-            return "\n".join([*lines, "No point is permitted: no site.", ""])
-        lines += self.site_lines(figures) + self.difference_lines() + self.town_lines(figures)
+            return "\n".join([*lines, "No point is permitted: no site.", *read, ""])
+        lines += [*self.site_lines(figures), *read, "", *self.difference_lines(), *self.town_lines(figures)]
         return "\n".join([*lines, ""])
 
     def site_lines(self, figures: dict[str, Any]) -> list[str]:
         site = figures["site"]
         if site is None or self.cost is None or self.bound is None:
-            return [
-                "No permitted site was found within the limits; the bound stands in report.json.",
-                "",
-            ]
+            return ["No permitted site was found within the limits; the bound stands in report.json."]
         lines = [f"Site: {site['x']}, {site['y']} ({site['crs']})"]
         if site["lon"] is not None:
             lines.append(f"  longitude {site['lon']:.6f}, latitude {site['lat']:.6f} (WGS 84)")
         low, high = (thousands(value) for value in self.cost)
         lines += [
             "",
-            f"Cost: {high if low == high else f'{low} to {high}'} weight times metres, grid distance",
+            f"Cost: {high if low == high else f'{low} to {high}'} weight times metres, {figures['distance']} distance",
             f"No permitted point costs less than {thousands(floor(self.bound))}",
         ]
         if self.gap is not None:
@@ -236,7 +237,7 @@ class Report:
         names = " and ".join(f"{name}.geojson" for name in self.read.made)
         if names:
             lines.append(f"All of this is for places outside the areas in {names}, as written")
-        return [*lines, ""]
+        return lines
 
     def difference_lines(self) -> list[str]:
         if self.cost is None:
@@ -265,6 +266,8 @@ class Report:
         layers = layers_of(self.search, self.near, self.squares, self.site_row())
         write_package(folder / "siting.gpkg", layers, self.read.crs)
         if maps:
+            from .maps import write_maps  # matplotlib, which nothing else needs
+
             write_maps(self.search, self.near, self.squares, self.headline(), folder)
             write_page(self.page(figures, text), folder / "report.html")
         for name, rings in self.read.made.items():
@@ -274,6 +277,15 @@ class Report:
             if run.solved:
                 (folder / f"{number}.siting").write_text(run.solved.instance)
                 (folder / f"{number}.answer").write_text(run.solved.text)
+                cover = self.cover(run, run.solved.instance)
+                if cover is not None:
+                    (folder / f"{number}.cover").write_text(cover)
+
+    def cover(self, run: Run, instance: str) -> str | None:
+        """What `bsss_cover` reads of a tile; None where the tile is too large for it."""
+        plane, shift = run.plane, self.search.frame.shift
+        rings = Cover(plane.region, plane.forbidden, run.outer.triangles, plane.box(run.tile), shift)
+        return cover_text(rings, run.outer.permits, instance)
 
     def site_row(self) -> dict[str, Any] | None:
         """The row of the layer `site`."""
@@ -308,7 +320,7 @@ def proof_of(run: Run) -> dict[str, Any]:
     """What an audit needs of a tile beside its answer: its box, pieces and triangles in fine units, its groups."""
     pieces = {"permits": run.outer.permits, "forbids": run.outer.forbids}
     triangles = [[*a, *b, *c, owner] for a, b, c, owner in run.outer.triangles]
-    proof: dict[str, Any] = {"box": run.tile, **pieces, "triangles": triangles}
+    proof: dict[str, Any] = {"box": run.tile, "plane": run.plane.made, **pieces, "triangles": triangles}
     if run.solved:
         proof |= {"groups": run.solved.groups, "scale": run.solved.charges.scale}
     return proof

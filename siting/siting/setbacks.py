@@ -7,10 +7,7 @@ tested and proved is for the areas as they are written.
 from collections.abc import Sequence
 from math import cos, pi, sin
 
-from shapely.geometry import MultiPolygon, Polygon
-from shapely.geometry.base import BaseGeometry
-from shapely.ops import unary_union
-
+from . import geos
 from .layers import Ring, by_area, turned
 
 CORNERS = 32  # of a disc
@@ -24,7 +21,8 @@ Places = Sequence[tuple[float, float]]
 def grown(rings: Sequence[Ring], metres: float, unit: float) -> list[Ring]:
     """Areas that hold all that is nearer than so many metres to these; `unit` is in metres."""
     distance = (metres * EXCESS + MARGIN) / unit
-    return rings_of(unary_union([Polygon(outer, holes).buffer(distance, QUARTER) for outer, *holes in by_area(rings)]))
+    wide = [geos.grown(geos.areas([area]), distance, QUARTER) for area in by_area(rings)]
+    return list(turned(geos.joined(wide)))
 
 
 def around(places: Places, metres: float, unit: float, region: Sequence[Ring]) -> list[Ring]:
@@ -35,10 +33,5 @@ def around(places: Places, metres: float, unit: float, region: Sequence[Ring]) -
     near = {(x, y) for x, y in places if x0 <= x <= x1 and y0 <= y <= y1}
     turns = [2 * pi * step / CORNERS for step in range(CORNERS)]
     spokes = [(radius * cos(turn), radius * sin(turn)) for turn in turns]
-    return rings_of(unary_union([Polygon([(x + a, y + b) for a, b in spokes]) for x, y in sorted(near)]))
-
-
-def rings_of(union: BaseGeometry) -> list[Ring]:
-    """The rings of a union: outer ones, each followed by its holes."""
-    parts = union.geoms if isinstance(union, MultiPolygon) else [] if union.is_empty else [union]
-    return [ring for part in parts for ring in turned(part)]
+    discs = geos.areas([[(x + a, y + b) for a, b in spokes]] for x, y in sorted(near))
+    return list(turned(geos.joined([discs])))

@@ -31,13 +31,14 @@ def bounded_squares(search: Search) -> list[Bounded]:
 def of_run(search: Search, number: int, run: Run, runs: int) -> Iterator[Bounded]:
     """The squares of a tile, one of so many."""
     assert run.solved is not None
-    solved, parts = run.solved, [part.tile for part in run.parts]
+    solved = run.solved
+    tile, parts = run.plane.box(run.tile), [run.plane.box(part.tile) for part in run.parts]
     left, done = CHARGED // runs, 0
     waiting: list[tuple[int, int, int, Square]] = []
     some = [(0, solved.answer.root)]
     while True:
         for charge, square in some:
-            if square.least is None or within(square, run.tile, parts, search.bits):
+            if square.least is None or within(square, tile, parts, search.bits):
                 continue
             if left > 0 or is_known(solved.charges, square):
                 left -= not is_known(solved.charges, square)

@@ -14,15 +14,15 @@ import numpy as np
 from .exact.answers import Answer, Square, instance_text, read_answer, read_polished
 from .exact.bound import Box, Least, least, value_of, within
 from .exact.chains import permitted
-from .exact.charges import Charges, Group, to_grid
-from .exact.cost import cost
+from .exact.charges import Charges, Group
 from .exact.cover import first_failure
 from .exact.frame import GRID
-from .problem import Problem, choose_frame
+from .planes import Plane, planes_of
+from .problem import Problem
 from .program import ANSWERS, NEAR, OutOfTime, Program
 from .proposals.joining import POINTS, Focus, Numbers, first_choice, join, to_groups
-from .proposals.outer import Outer, prepared, propose
-from .proposals.sites import Landscape, Permitted, descend, inside
+from .proposals.outer import Outer, propose
+from .proposals.sites import Permitted, descend, inside
 
 BUDGET = 8_000  # leases of a solve
 STEPS = 1_500  # squares whose charge is computed, for a bound
@@ -49,12 +49,14 @@ class Limits:
 
 @dataclass(frozen=True)
 class Site:
-    """A permitted place in the plane, and its cost over all towns, from below and from above."""
+    """A permitted place of the layers, its cost over all towns, from below and from above, and about the size of
+    all weight times distance."""
 
     x: float
     y: float
     low: Fraction
     high: Fraction
+    size: float
 
 
 class Solved(NamedTuple):
@@ -70,12 +72,14 @@ class Solved(NamedTuple):
 
 @dataclass
 class Run:
-    """A tile, what was solved for it, and the least bound of what its parts don't hold.
+    """A tile and its plane, what was solved for it, and the least bound of what its parts don't hold; the tile's box
+    is in the units that all planes share.
 
     The parts' tiles hold every leaf that isn't counted; where they cut the tile, no leaf is counted.
     """
 
     tile: Box
+    plane: Plane
     outer: Outer
     solved: Solved | None = None
     least: Least | None = None
@@ -89,27 +93,21 @@ class Search:
     def __init__(self, problem: Problem, program: Program, limits: Limits, say: Callable[[str], None]):
         self.problem, self.program, self.limits, self.say = problem, program, limits, say
         self.kind = problem.question.kind
-        self.frame = choose_frame(problem)
+        self.planes = planes_of(problem)
+        self.frame, self.landscape = self.planes.frame, self.planes.landscape
         self.bits = self.frame.shift - GRID  # a grid unit is 2^bits fine units
-        self.region = tuple(self.fine_ring(ring) for ring in problem.region)
-        self.forbidden = tuple(self.fine_ring(ring) for ring in problem.forbidden)
-        self.regions = prepared(self.region, self.forbidden)
         self.permitted = Permitted(problem.region, problem.forbidden)
-        self.towns = to_grid(self.frame, problem.towns)
-        self.landscape = Landscape(self.kind, problem.towns)
         self.unit = self.frame.grid_unit() / problem.towns.share  # of bounds: plane's units times weight
         self.site: Site | None = None
         self.runs: list[Run] = []
-
-    def fine_ring(self, ring: object) -> tuple[tuple[int, int], ...]:
-        """A ring in fine units, exactly."""
-        return tuple(self.frame.fine(x, y) for x, y in ring)  # type: ignore[attr-defined]
 
     # where the work goes
 
     def go(self) -> None:
         """Runs until the gap is reached, or a limit."""
-        first = self.run(self.whole(), None)
+        if self.problem.ground is not None and self.kind == "sum":
+            self.begin()
+        first = self.run(self.planes.whole, None)
         waiting: list[tuple[int, int, Run]] = []
         self.wait(waiting, first)
         try:
@@ -122,6 +120,14 @@ class Search:
         except OutOfTime:
             pass
 
+    def begin(self) -> None:
+        """Offers a site before any is solved for: planes show best what is near to their middle."""
+        west, south, east, north = self.planes.doubles(self.planes.whole)
+        step = (east - west + north - south) / 16
+        start = descend(self.landscape, lambda x, y: True, ((west + east) / 2, (south + north) / 2), step, step / 512)
+        if not self.offer(*start):
+            any(self.offer(*place) for place in self.permitted.near(*start, step / 4096))
+
     def wait(self, waiting: list[tuple[int, int, Run]], run: Run) -> None:
         if run.least is not None:
             heappush(waiting, (run.least.value, len(self.runs) + len(waiting), run))
@@ -130,11 +136,6 @@ class Search:
     def may_go_on(self) -> bool:
         until = self.limits.until
         return len(self.runs) < self.limits.tiles and (until is None or time.monotonic() < until)
-
-    def whole(self) -> Box:
-        """The tile that holds the whole region."""
-        xs, ys = zip(*(place for ring in self.region for place in ring))
-        return min(xs), min(ys), max(xs), max(ys)
 
     def bound(self) -> Fraction | None:
         """No permitted point costs less, in the plane's units times weight; None where there is none."""
@@ -150,8 +151,8 @@ class Search:
     def allowed(self) -> Fraction:
         """The gap allowed: by the cost, and a millionth of all weight times distance, where weights cancel."""
         assert self.site is not None
-        size = Fraction(self.landscape.size(self.site.x, self.site.y))
-        return max(abs(self.site.high) * self.limits.within / 100, size / 10**6)
+        allowed = max(abs(self.site.high) * self.limits.within / 100, Fraction(self.site.size) / 10**6)
+        return max(allowed / 100, allowed - 2 * self.problem.off - self.problem.borders)
 
     def reached(self, value: int) -> bool:
         goal = self.goal()
@@ -167,19 +168,20 @@ class Search:
 
     def run(self, tile: Box, focus: Box | None) -> Run:
         """Solves a tile."""
-        outer = propose(self.regions, tile, self.frame.shift)
-        shift = self.frame.shift
+        plane = self.planes.about(tile, (self.site.x, self.site.y) if self.site else None)
+        box, shift = plane.box(tile), self.frame.shift
+        outer = propose(plane.regions(), box, shift)
         pieces = outer.permits, outer.forbids, outer.triangles
-        failure = first_failure(*pieces, self.region, self.forbidden, tile, shift)
+        failure = first_failure(*pieces, plane.region, plane.forbidden, box, shift)
         if failure is not None:
             raise TestFailed(f"a tile's pieces: {failure}")
-        run = Run(tile, outer)
+        run = Run(tile, plane, outer)
         if outer.permits:
             if self.kind == "max":
                 self.solve_max(run)
             else:
-                joined = join(self.towns, self.in_grid_units(focus or tile), POINTS)
-                self.solve(run, *to_groups(self.towns, joined))
+                joined = join(plane.towns, self.in_grid_units(plane.box(focus or tile)), POINTS)
+                self.solve(run, *to_groups(plane.towns, joined))
         self.runs.append(run)
         return run
 
@@ -190,7 +192,7 @@ class Search:
     def solve(self, run: Run, groups: list[Group], scale: int) -> bool:
         """Solves with these groups: coarsely, and finer where that isn't enough; whether time allowed it."""
         instance = instance_text(self.kind, groups, run.outer.permits, run.outer.forbids)
-        charges = Charges(self.kind, self.towns, groups, scale)
+        charges = Charges(self.kind, run.plane.towns, groups, scale, run.plane.ground)
         for part in (1, 4):
             until = self.limits.until if self.runs or run.solved else None  # so that there is one answer at least
             try:
@@ -227,22 +229,23 @@ class Search:
 
     def solve_max(self, run: Run) -> None:
         """Solves with a few towns, and again with those that are missed where the bound is least."""
-        chosen = first_choice(self.towns)
+        towns = run.plane.towns
+        chosen = first_choice(towns)
         for _ in range(ROUNDS):
-            if not self.solve(run, *to_groups(self.towns, chosen)):
+            if not self.solve(run, *to_groups(towns, chosen)):
                 return
             assert run.solved is not None
-            missed = self.missed(run.solved.answer, np.concatenate(chosen))
+            missed = self.missed(run, run.solved.answer, np.concatenate(chosen))
             if run.solved.answer.site is None or not missed or len(chosen) + len(missed) > POINTS:
                 return
             chosen += [np.array([number]) for number in missed]
 
-    def missed(self, answer: Answer, known: Numbers) -> list[int]:
+    def missed(self, run: Run, answer: Answer, known: Numbers) -> list[int]:
         """The towns left out that are the worst at the site, or at a leaf of the least bounds."""
         middles = [(s.x + s.side // 2, s.y + s.side // 2) for s in lowest(answer.root, WEAKEST)]
         missed = set()
         for place in ([answer.site] if answer.site else []) + middles:
-            terms = self.landscape.terms(*(float(value) for value in self.frame.plane(*place)))
+            terms = run.plane.landscape.terms(*(float(value) for value in self.frame.plane(*place)))
             worst = int(terms.argmax())
             if terms[worst] > terms[known].max():
                 missed.add(worst)
@@ -253,8 +256,9 @@ class Search:
         assert run.solved is not None
         *_, answer, polished, charges = run.solved
         fine = self.goal(Fraction(1, 10))
+        tile, left_out = run.plane.box(run.tile), [run.plane.box(box) for box in boxes]
         for steps in (FEW_STEPS, STEPS):
-            found = least(answer, polished, charges, run.tile, boxes, self.bits, fine, steps)
+            found = least(answer, polished, charges, tile, left_out, self.bits, fine, steps)
             if found is None or self.reached(found.value):
                 break
         return found
@@ -284,25 +288,27 @@ class Search:
         squares = [] if goal is None else self.weak_squares(run, goal)
         if not squares:
             return []
-        one = self.hull(squares, run.tile)
+        one = self.hull(run, squares)
         if area(one) <= 0.5 * area(run.tile):
             return [one]
-        axis = 0 if one[2] - one[0] > one[3] - one[1] else 1
+        wide = run.plane.box(one)
+        axis = 0 if wide[2] - wide[0] > wide[3] - wide[1] else 1
         squares.sort(key=lambda square: (square.x, square.y)[axis] * 2 + square.side)
         middle = len(squares) // 2
-        two = [self.hull(part, run.tile) for part in (squares[:middle], squares[middle:]) if part]
+        two = [self.hull(run, part) for part in (squares[:middle], squares[middle:]) if part]
         return two if sum(map(area, two)) <= 0.8 * area(run.tile) else []
 
     def weak_squares(self, run: Run, goal: int, most: int = STEPS) -> list[Square]:
         """The leaves whose bound is below the goal, or squares that hold them."""
         assert run.solved is not None
         found, steps = [], 0
+        tile = run.plane.box(run.tile)
         waiting = deque([run.solved.answer.root])
         while waiting:
             square = waiting.popleft()
             if square.least is None:
                 continue
-            if within(square, run.tile, [], self.bits):
+            if within(square, tile, [], self.bits):
                 continue
             steps += 1
             if value_of(square, run.solved.polished, run.solved.charges) >= goal:
@@ -313,14 +319,18 @@ class Search:
                 found.append(square)
         return found
 
-    def hull(self, squares: list[Square], tile: Box) -> Box:
-        """The box of the squares, within the tile, in fine units."""
-        return (
-            max(tile[0], min(s.x for s in squares) << self.bits),
-            max(tile[1], min(s.y for s in squares) << self.bits),
-            min(tile[2], max(s.x + s.side for s in squares) << self.bits),
-            min(tile[3], max(s.y + s.side for s in squares) << self.bits),
+    def hull(self, run: Run, squares: list[Square]) -> Box:
+        """A box that holds what the tile has of the squares, within the tile."""
+        found = run.plane.shared(
+            (
+                min(s.x for s in squares) << self.bits,
+                min(s.y for s in squares) << self.bits,
+                max(s.x + s.side for s in squares) << self.bits,
+                max(s.y + s.side for s in squares) << self.bits,
+            )
         )
+        (a, b, c, d), (x0, y0, x1, y1) = run.tile, found
+        return max(a, x0), max(b, y0), min(c, x1), min(d, y1)
 
     # how free the choice is
 
@@ -332,9 +342,11 @@ class Search:
         most = floor((self.site.high + abs(self.site.high) * percent / 100) / self.unit) + 1
         squares = self.weak_squares(run, most, FEW_STEPS)
         if squares and listed and run.solved.answer.site is not None:
-            squares = self.listed(run.solved, squares, most) or squares
-        parts = [part.tile for part in run.parts]
-        return [square for square in squares if not within(square, run.tile, parts, self.bits)]
+            found = self.listed(run.solved, squares, most)
+            if found and sum(s.side**2 for s in found) < sum(s.side**2 for s in squares):
+                squares = found
+        tile, parts = run.plane.box(run.tile), [run.plane.box(part.tile) for part in run.parts]
+        return [square for square in squares if not within(square, tile, parts, self.bits)]
 
     def listed(self, solved: Solved, weak: list[Square], most: int) -> list[Square]:
         """What `near` lists of an answer, where all that costs less than `most` is in the weak squares: so finely that
@@ -356,21 +368,21 @@ class Search:
 
     def offer(self, x: float, y: float) -> bool:
         """Takes a site where it is permitted and costs less than the best one so far."""
-        shift, unit = self.frame.shift, Fraction(2) ** self.frame.fine_bits
-        ways = [Fraction(v) * unit - (at << shift) for v, at in ((x, self.frame.x), (y, self.frame.y))]
-        q = max(way.denominator for way in ways)
-        if not permitted(self.region, self.forbidden, int(ways[0] * q), int(ways[1] * q), q):
+        if not permitted(*self.planes.spot(x, y)):
             return False
-        low, high = cost(self.kind, self.problem.towns, x, y)
+        if self.site is not None and self.landscape.cost(x, y) > self.site.high + abs(self.site.high) / 10**9:
+            return True
+        low, high = self.planes.cost(x, y)
         if self.site is None or high < self.site.high:
-            self.site = Site(x, y, low, high)
+            self.site = Site(x, y, low, high, self.landscape.size(x, y))
         return True
 
     def offer_near(self, run: Run, x: float, y: float) -> None:
         """Offers the solver's site, or a permitted place near it, and what is better near that."""
-        length = float(self.frame.grid_unit() * 2**GRID)
-        if not self.offer(x, y) and self.site is None:
-            for place in self.permitted.near(x, y, 1.5 * length):
+        length, plane = float(self.frame.grid_unit() * 2**GRID), run.plane
+        if not self.offer(*plane.place(x, y)) and self.site is None:
+            (a, b), (c, _) = plane.place(x, y), plane.place(x + 1.5 * length, y)
+            for place in self.permitted.near(a, b, abs(c - a)):
                 if self.offer(*place):
                     break
         permits, forbids = (
@@ -382,12 +394,12 @@ class Search:
         def allowed(a: float, b: float) -> bool:
             return inside(permits, a, b) and not inside(forbids, a, b)
 
-        better = descend(self.landscape, allowed, (x, y), length * 4096, length / 64)
+        better = descend(plane.landscape, allowed, (x, y), length * 4096, length / 64)
         if better != (x, y):
-            self.offer(*better)
+            self.offer(*plane.place(*better))
 
     def to_doubles(self, x: float, y: float) -> tuple[float, float]:
-        """A place in fine units, in the plane."""
+        """A place in fine units, in a plane's units."""
         unit = Fraction(2) ** -self.frame.fine_bits
         shift = self.frame.shift
         a, b = Fraction(x) + (self.frame.x << shift), Fraction(y) + (self.frame.y << shift)

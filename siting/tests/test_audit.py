@@ -14,7 +14,7 @@ from siting.audit import SENTENCES, Audit
 from siting.command import main
 from siting.compare import digest
 from siting.layers import write_areas
-from siting.program import BUILT, Program
+from siting.program import BUILT, COVERS, Program
 
 PROGRAM = str(BUILT if BUILT.exists() else Path(__file__).parent / "stand_in")
 TOWNS = [("A", 10, 100.5, 100.0), ("B", 20, 900.0, 150.0), ("C", 5, 450.0, 1900.25), ("D", 0, 1.0, 1.0)]
@@ -222,6 +222,7 @@ EDITS: dict[str, tuple[Edit, str, str]] = {  # an edit, the sentence that fails,
     "a digit of each bound": (figures(all_bounds), "bounds", "its bound doesn't follow"),
     "the cost": (figures(lambda f: set_in(f, cost=[raised(c, "-1") for c in f["cost"]])), "cost", "it is from"),
     "the cost, wider": (figures(lambda f: set_in(f, cost=[f["cost"][0], raised(f["cost"][1])])), "cost", "it is from"),
+    "a digit of a cover": (text("1.cover", "shift ", "shift 1"), "answers", "its cover is another's"),
     "the site in the lake": (figures(lambda f: set_in(f["site"], x="300.0", y="300.0")), "site", "it isn't"),
     "the site in the forest": (figures(lambda f: set_in(f["site"], x="900.0", y="200.0")), "site", "it isn't"),
     "the site outside": (figures(lambda f: set_in(f["site"], x="500.0", y="700.0")), "site", "it isn't"),
@@ -358,6 +359,13 @@ def test_a_site_is_as_said_where_no_point_is_permitted(tmp_path: Path) -> None:
     assert failing(tmp_path) == {"words": "it says a site"}
     figures(lambda f: set_in(f, answer="wider"))(tmp_path)
     assert "no point is permitted" in failing(tmp_path)["bound"]
+
+
+@pytest.mark.skipif(not COVERS.exists(), reason="bsss_cover isn't built")
+def test_tiles_are_found_covered(answered: Path, capsys: pytest.CaptureFixture[str]) -> None:
+    main(["audit", str(answered / "out"), "--bsss", PROGRAM])
+    said = re.search(r"and bsss_cover finds (\d+) of (\d+) covered", capsys.readouterr().out)
+    assert said is not None and said[1] == said[2] != "0"
 
 
 def test_statuses(copy: Path, capsys: pytest.CaptureFixture[str]) -> None:

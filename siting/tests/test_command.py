@@ -84,6 +84,14 @@ def test_other_questions(layers: Path, question: str) -> None:
     assert Fraction(report["bound"]) <= Fraction(report["cost"][1])
 
 
+def test_progress_in_lines(layers: Path) -> None:
+    assert ask(layers, "near", "--within", "50").stderr == ""
+    (layers / "out").rename(layers / "first")
+    lines = ask(layers, "near", "--within", "50", "--progress").stderr.splitlines()
+    assert [lines[0], lines[1], lines[-1]] == ["progress: reading", "progress: searching", "progress: writing"]
+    assert lines[2].startswith("progress: 1 tiles, gap ") and lines[2].endswith(" %")
+
+
 def test_reach_by_field_and_feet(layers: Path) -> None:
     rows = ["x,y,reach", "100,100,50", "900,150,0.2"]
     (layers / "towns.csv").write_text("\n".join(rows) + "\n")

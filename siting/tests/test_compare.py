@@ -5,6 +5,7 @@ import json
 from fractions import Fraction
 from math import hypot
 from pathlib import Path
+from shutil import copy, copytree
 
 import pytest
 from siting.command import main
@@ -75,6 +76,18 @@ def test_compare(answer: Path, tmp_path: Path, capsys: pytest.CaptureFixture[str
         assert line[:at].endswith(row["cost"])  # columns line up
 
 
+def test_sites_one_by_one(answer: Path, capsys: pytest.CaptureFixture[str]) -> None:
+    """Also those whose x is below 0."""
+    assert main(["compare", str(answer), "--site=-1.0,5.0", "--site", "500,500", "700,0", "--site=-2,-3"]) == 0
+    lines = [line.split() for line in capsys.readouterr().out.splitlines()[2:]]
+    assert [line[:3] for line in lines] == [
+        ["1", "-1.0", "5.0"],
+        ["2", "500.0", "500.0"],
+        ["3", "700.0", "0.0"],
+        ["4", "-2.0", "-3.0"],
+    ]
+
+
 def test_a_page_with_the_sites(answer: Path, tmp_path: Path, capsys: pytest.CaptureFixture[str]) -> None:
     words = ["compare", str(answer), "--site", "500,500", "700,0", "--page", str(tmp_path / "sites.html")]
     assert main(words) == 0
@@ -90,6 +103,20 @@ def test_changed_layers_are_refused(answer: Path, capsys: pytest.CaptureFixture[
     towns.write_text(towns.read_text().replace("900.0", "901.0"))
     assert main(["compare", str(answer), "--site", "1,2"]) == 2
     assert "towns.csv isn't as it was" in capsys.readouterr().err
+
+
+def test_a_folder_that_moved_with_its_layers(answer: Path, tmp_path: Path, capsys: pytest.CaptureFixture[str]) -> None:
+    """Its layers are found beside it; where they are at their old place, these count."""
+    other = tmp_path.with_name("moved")
+    copytree(tmp_path, other)
+    (other / "towns.csv").write_text("x,y\n1,1\n")
+    words = ["--site", "500,500"]
+    assert main(["compare", str(other / "out"), *words]) == 0
+    (tmp_path / "towns.csv").rename(tmp_path / "other.csv")
+    assert main(["compare", str(other / "out"), *words]) == 2
+    copy(tmp_path / "other.csv", other / "towns.csv")
+    assert main(["compare", str(other / "out"), *words]) == 0
+    assert main(["audit", str(other / "out"), "--bsss", PROGRAM]) == 0
 
 
 def test_what_is_no_answer_is_refused(tmp_path: Path, capsys: pytest.CaptureFixture[str]) -> None:

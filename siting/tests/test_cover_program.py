@@ -6,7 +6,7 @@ from pathlib import Path
 import pytest
 from test_regions import CASES, SHIFT, box_of, made
 
-from siting.cover_text import cover_text, numbers
+from siting.cover_text import Cover, cover_text, numbers
 from siting.exact.plane import Box, Rings
 from siting.proposals.outer import Outer, prepared, propose
 
@@ -38,7 +38,7 @@ def texts(name: str) -> list[str]:
 
 def text_of(region: Rings, forbidden: Rings, tile: Box) -> str:
     outer = propose(prepared(region, forbidden), tile, SHIFT)
-    return cover_text(outer, region, forbidden, tile, SHIFT, instance_of(outer))
+    return cover_text(Cover(region, forbidden, outer.triangles, tile, SHIFT), outer.permits, instance_of(outer))
 
 
 @pytest.mark.parametrize("name", CASES)

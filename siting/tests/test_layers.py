@@ -2,6 +2,7 @@
 
 import json
 from fractions import Fraction
+from math import hypot, pi
 from pathlib import Path
 from random import Random
 
@@ -112,7 +113,6 @@ BROKEN = [
     ("POLYGON EMPTY", "is empty"),
     (None, "is empty"),
     ("LINESTRING (0 0, 9 9)", "is a LINESTRING"),
-    ("CURVEPOLYGON (CIRCULARSTRING (0 0, 5 5, 9 0, 5 -5, 0 0))", "has arcs"),
 ]
 
 
@@ -121,6 +121,58 @@ def test_broken_areas_are_refused(tmp_path: Path, shape: str | None, said: str) 
     source = write(tmp_path / "a.gpkg", [f"POLYGON {SQUARE}", shape])
     with pytest.raises(Refused, match=f"feature 2.*{said}"):
         read_rings(source)
+
+
+def test_arcs_are_made_straight(tmp_path: Path) -> None:
+    arcs = "CURVEPOLYGON (COMPOUNDCURVE (CIRCULARSTRING (0 100, 100 0, 0 -100), (0 -100, -500 0, 0 100)))"
+    layer = read_rings(write(tmp_path / "a.gpkg", [f"POLYGON {SQUARE}", arcs]))
+    assert 0 < layer.off < 0.01 and "has arcs" in layer.notes[0]
+    half = [place for place in layer.features[1][0] if place[0] > 1]
+    assert len(half) > 300 and all(abs(hypot(x, y) - 100) < 1e-9 for x, y in half)
+    area = doubled(layer.features[1][0]) / 2
+    assert 0 < 100**2 * pi / 2 + 500 * 100 - area < layer.off * 100 * pi
+    assert read_rings(write(tmp_path / "b.gpkg", [f"POLYGON {SQUARE}"])).off == 0
+
+
+def test_encodings(tmp_path: Path) -> None:
+    texts = {"utf-8": (), "utf-8-sig": (), "latin-1": ("read as Latin-1",)}
+    for encoding, said in texts.items():
+        (tmp_path / "a.csv").write_bytes("x,y,name\n1,2,Köln\n".encode(encoding))
+        points = read_points(str(tmp_path / "a.csv"), ["name"])
+        assert points.fields == {"name": ["Köln"]} and [note[-15:] for note in points.notes] == list(said)
+    for encoding, name in (("CP1251", "Москва"), ("ISO-8859-1", "Köln"), ("UTF-8", "東京")):
+        path = tmp_path / f"{encoding}.shp"
+        source = ogr.GetDriverByName("ESRI Shapefile").CreateDataSource(str(path))
+        layer = source.CreateLayer(encoding, None, ogr.wkbPoint, [f"ENCODING={encoding}"])
+        layer.CreateField(ogr.FieldDefn("name", ogr.OFTString))
+        feature = ogr.Feature(layer.GetLayerDefn())
+        feature["name"] = name
+        feature.SetGeometry(ogr.CreateGeometryFromWkt("POINT (1 2)"))
+        layer.CreateFeature(feature)
+        del feature, layer, source
+        assert path.with_suffix(".cpg").exists() and read_points(str(path), ["name"]).fields == {"name": [name]}
+
+
+COLUMNS = [
+    ("x,y\n1,2\n", None),
+    ("Y;id;X\n2;7;1\n", None),
+    ("Easting,Northing\n1,2\n", None),
+    ("lat\tlon\n2\t1\n", 4326),
+    ("longitude,latitude\n1,2\n", 4326),
+    ("lng,lat\n1,2\n", 4326),
+    ("id,WKT\n7,POINT (1 2)\n", None),
+    ('geom\n"POINT Z (1 2 3)"\n', None),
+]
+
+
+@pytest.mark.parametrize("text, epsg", COLUMNS)
+def test_columns_are_guessed(tmp_path: Path, text: str, epsg: int | None) -> None:
+    (tmp_path / "a.csv").write_text(text)
+    points = read_points(str(tmp_path / "a.csv"))
+    assert (points.x, points.y) == ([1.0], [2.0])
+    assert (None if points.crs is None else points.crs.to_epsg()) == epsg
+    given = read_points(str(tmp_path / "a.csv"), crs="EPSG:4258").crs
+    assert given is not None and given.to_epsg() == 4258
 
 
 def test_other_refusals(tmp_path: Path) -> None:

@@ -38,7 +38,7 @@ def made(question: str, towns: int, vertices: int, high: float = 1.0, cutoff: Fr
     problem = Problem(QUESTIONS[question], known, [f"town {n}" for n in range(towns)], [ring], [], Fraction(1))
     search = Search(problem, Unneeded(), Limits(Fraction(1), None, 1, 1), lambda text: None)  # type: ignore[arg-type]
     cost = Fraction(search.landscape.cost(5e5, 5e6))
-    search.site = Site(5e5, 5e6, cost, cost)
+    search.site = Site(5e5, 5e6, cost, cost, float(abs(cost)))
     return search
 
 
@@ -85,7 +85,7 @@ def test_shades_differ_in_grey() -> None:
 def test_views_hold_the_region_and_are_no_strips(high: float) -> None:
     search = made("near", 5, 50, high)
     view = view_of(search)
-    assert LOW - 1e-9 <= view.height / view.width <= HIGH + 1e-9
+    assert LOW - 1e-9 <= view.ratio <= HIGH + 1e-9
     for x, y in search.problem.region[0]:
         assert view.x0 < x < view.x1 and view.y0 < y < view.y1
 
@@ -106,7 +106,7 @@ def test_towns_drawn_are_the_heaviest_in_view() -> None:
 def test_lines_of_equal_cost(question: str, cutoff: Fraction | None) -> None:
     search = made(question, 4_000, 50, cutoff=cutoff)
     if question == "far":
-        search.site = Site(5.3e5, 5e6, Fraction(0), Fraction(0))
+        search.site = Site(5.3e5, 5e6, Fraction(0), Fraction(0), 0.0)
     assert search.site is not None
     view, land = view_of(search), search.landscape
     assert len(joined(search, view.width / 64)[0]) < 4_000

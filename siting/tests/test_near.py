@@ -55,13 +55,14 @@ def test_they_hold_what_costs_little_more(search: tiles.Search, near: list[NearS
     assert all(count > 0 for count in counts.values())
 
 
-def test_they_are_nested_and_polygons_have_their_area(near: list[NearSet]) -> None:
+def test_they_are_nested_and_polygons_have_their_area(search: tiles.Search, near: list[NearSet]) -> None:
     for small, large in zip(near, near[1:]):
-        assert is_within(small, large) and small.area <= large.area
+        assert is_within(small, large)
+        assert small.square_metres(search.planes) <= large.square_metres(search.planes)
     for found in near:
         rings = [[(Fraction(x), Fraction(y)) for x, y in ring] for rings in found.polygons for ring in rings]
         twice = (x * b - a * y for ring in rings for (x, y), (a, b) in zip(ring, [*ring[1:], ring[0]]))
-        assert sum(twice) / 2 == found.area
+        assert sum(twice) / 2 == found.square_metres(search.planes)
 
 
 def test_without_a_site_there_are_none(search: tiles.Search, monkeypatch: pytest.MonkeyPatch) -> None:

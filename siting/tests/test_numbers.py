@@ -9,9 +9,9 @@ from hypothesis import strategies as st
 
 from siting.exact.answers import Answer, Square, instance_text, read_answer, read_polished
 from siting.exact.bound import least
-from siting.exact.charges import ENDLESS, Charges, Group, Town, to_grid
+from siting.exact.charges import Charge, Charges, Group, to_grid
 from siting.exact.cost import cost, to_towns
-from siting.exact.frame import Frame, nearest
+from siting.exact.frame import ENDLESS, Frame, Town, nearest
 
 GRID = 65536
 doubles = st.floats(-1e7, 1e7)
@@ -153,7 +153,7 @@ def test_charges_hold_in_the_whole_square(
 def test_charges_by_hand() -> None:
     towns = [Town(3 * GRID, 0, 2, ENDLESS), Town(-3 * GRID, 0, 2, ENDLESS)]
     pulls = Charges("sum", towns, [Group(0, 0, 4, None, (0, 1))], 1)
-    assert pulls.of(100 * GRID, 0, GRID) == (4, 0, 0, 0)  # one grid unit each; nothing for joining
+    assert pulls.of(100 * GRID, 0, GRID) == Charge(4, 0, 0, 0)  # one grid unit each; nothing for joining
     push = [town._replace(weight=-2) for town in towns]
     pushes = Charges("sum", push, [Group(0, 0, -4, None, (0, 1))], 1)
     charge = pushes.of(100 * GRID, 0, 2)
@@ -162,7 +162,7 @@ def test_charges_by_hand() -> None:
     assert pushes.of(0, 0, GRID).joined == 12 * GRID  # no more than the towns' own ways
     near = [town._replace(cutoff=20 * GRID) for town in push]
     reached = Charges("sum", near, [Group(0, 0, -4, 20, (0, 1))], 1)
-    assert reached.of(100 * GRID, 0, GRID) == (8, 0, 0, 0)  # beyond the cutoff all is constant
+    assert reached.of(100 * GRID, 0, GRID) == Charge(8, 0, 0, 0)  # beyond the cutoff all is constant
     light = Charges("sum", towns, [Group(0, 0, 1, None, (0, 1))], 3)  # 3 in place of 4: a gain
     assert sqrt(2) * GRID * -101.1 < light.of(100 * GRID, 100 * GRID, GRID).weights < -140 * GRID
 

@@ -82,7 +82,7 @@ def test_near_sets_are_nested_and_hold_permitted_places(package: Path, search: S
     for (_, large), (_, small) in zip(rows, rows[1:]):
         assert small.difference(large).area == 0
     for (row, shape), found in zip(rows, reversed(near)):
-        assert row["square_metres"] == float(found.area) == pytest.approx(shape.area, rel=1e-12)
+        assert row["square_metres"] == float(found.square_metres(search.planes)) == pytest.approx(shape.area, rel=1e-12)
     ((_, barred),), random = features(package, "not_permitted"), Random(3)
     assert search.site is not None
     inside = [0, 0, 0, 0, 0]

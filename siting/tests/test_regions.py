@@ -10,11 +10,11 @@ from hypothesis import given, settings
 from hypothesis import strategies as some
 from shapes import district, islands, parcels
 
-from siting.cover_text import cover_text
+from siting.cover_text import Cover, cover_text
 from siting.exact.chains import edges_of, permitted, remainder, winding
 from siting.exact.cover import first_failure, is_clear, may_forbid
 from siting.exact.plane import Ring, Rings, holds, in_units, is_convex, ring_edges, side
-from siting.proposals.cuts import doubled_area, within
+from siting.proposals.cuts import dissolve, doubled_area, within
 from siting.proposals.outer import Outer, prepared, propose
 from siting.proposals.permits import hull, whole_hull
 from siting.proposals.triangles import polygons_of, triangulate
@@ -245,6 +245,19 @@ def test_triangles_are_the_polygon(seed: int, plain: bool) -> None:
         assert sum(doubled_area(t) for t in triangles) == sum(doubled_area(r) for r in polygon)
 
 
+@pytest.mark.parametrize("name", ["district 40", "district 300", "parcels 12", "parcels 30", "islands 70"])
+def test_triangles_without_earcut_are_as_good(name: str) -> None:
+    """None lies over another, also where holes touch each other and the border, and the pieces waste as little."""
+    region, _ = made(name)
+    polygons, alone = polygons_of(dissolve(region))
+    triangles = [triangle for polygon in polygons for triangle in triangulate(polygon, True)]
+    assert not alone and all(doubled_area(triangle) >= 0 for triangle in triangles)
+    assert sum(map(doubled_area, triangles)) == sum(map(doubled_area, region))
+    regions, tile = prepared(region, ()), box_of(region)
+    plain, other = (sum(map(doubled_area, propose(regions, tile, SHIFT, way).permits)) for way in (True, False))
+    assert plain < 1.03 * other
+
+
 @settings(max_examples=15, deadline=None)
 @given(RINGS, some.integers(0, 5), some.integers(0, 5), some.integers(1, 4), some.integers(1, 4), some.booleans())
 def test_any_rings_are_held_or_refused(region: Rings, x: int, y: int, w: int, h: int, plain: bool) -> None:
@@ -272,7 +285,7 @@ def test_a_cover_text_passes_in_coarser_units(name: str) -> None:
     x0, y0, x1, y1 = box_of(region)
     for tile in ((x0, y0, x1, y1), (x0, y0, (x0 + x1) // 2, (y0 + 2 * y1) // 3)):
         outer = propose(prepared(region, forbidden), tile, SHIFT + 20)
-        text = cover_text(outer, region, forbidden, tile, SHIFT + 20, "siting 1\nend\n")
+        text = cover_text(Cover(region, forbidden, outer.triangles, tile, SHIFT + 20), outer.permits, "siting 1\nend\n")
         read = [line.split() for line in text.split("\n")]
         shift = int(read[1][1])
         rings = {word: tuple(points(line) for line in read if line[:1] == [word]) for word in ("region", "forbidden")}

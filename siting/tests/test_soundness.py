@@ -1,6 +1,7 @@
 """Soundness from outside: over made layers, no permitted place costs less than the bound that the command says, and the
 site is permitted. What is permitted is told by shapely here, and beside a border by fractions."""
 
+import csv
 import json
 from collections.abc import Iterator, Sequence
 from fractions import Fraction
@@ -9,6 +10,7 @@ from pathlib import Path
 from random import Random
 
 import numpy as np
+import pyproj
 import pytest
 from shapely.geometry import Point, Polygon
 from shapely.ops import unary_union
@@ -22,7 +24,9 @@ from siting.program import BUILT
 PROGRAM = str(BUILT if BUILT.exists() else Path(__file__).parent / "stand_in")
 QUESTIONS = ("near", "near-all", "far", "far-all", "mixed")
 PLACES = 120  # of each problem
-FAST, ALL = 5, 100
+FAST, ALL = 25, 100
+GEOD = pyproj.Geod(ellps="GRS80")
+DEGREE = 111_000.0  # metres, or nearly
 
 Place = tuple[float, float]
 
@@ -38,6 +42,10 @@ class Layers:
         parcels = 0 if seed % 4 else random.choice([30, 200])  # as a region, whose parts share borders
         wanted = Wanted(seed, random.choice(counts), random.choice(vertices), seed % 6, seed % 5 + 1, parcels)
         make(wanted, folder)
+        self.degrees = seed % 3 == 1
+        self.unit = 1 / DEGREE if self.degrees else 1.0  # of a metre
+        if self.degrees:
+            to_degrees(folder)
         self.folder, self.random = folder, random
         self.region = folder / ("parcels.geojson" if parcels else "district.geojson")
         self.question, self.reach = QUESTIONS[seed % 5], random.choice([None, 5000, 20_000])
@@ -53,7 +61,8 @@ class Layers:
     def ask(self) -> dict[str, object]:
         """What siting answers."""
         words = [self.question, f"--towns={self.folder / 'towns.csv'}", "--weight=people", f"--region={self.region}"]
-        words += [f"--forbid={self.folder / 'forests.geojson'}", "--crs=EPSG:25832", f"--out={self.folder / 'out'}"]
+        crs = "EPSG:4258" if self.degrees else "EPSG:25832"
+        words += [f"--forbid={self.folder / 'forests.geojson'}", f"--crs={crs}", f"--out={self.folder / 'out'}"]
         words += [f"--reach={self.reach}"] * (self.reach is not None)
         assert main([*words, "--tiles", "6", "--bsss", PROGRAM]) in (0, 1)
         return dict(json.loads((self.folder / "out" / "report.json").read_text()))
@@ -68,7 +77,7 @@ class Layers:
 
     def places(self, site: Place) -> Iterator[Place]:
         """Permitted places: in the middle, near the site, at vertices, on borders, and a little off these."""
-        inside = prep(self.permitted.buffer(-1e-6))
+        inside, spread = prep(self.permitted.buffer(-1e-6 * self.unit)), 300 * self.unit
         x0, y0, x1, y1 = self.permitted.bounds
         borders = [(a, b) for ring in [*self.rings, *self.forests] for a, b in zip(ring, ring[1:] + ring[:1])]
         while True:
@@ -77,7 +86,7 @@ class Layers:
             if kind == 0:
                 place = self.random.uniform(x0, x1), self.random.uniform(y0, y1)
             elif kind == 1:
-                place = self.random.gauss(site[0], 300), self.random.gauss(site[1], 300)
+                place = self.random.gauss(site[0], spread), self.random.gauss(site[1], spread)
             elif kind == 2:
                 place = ax, ay
             else:
@@ -92,13 +101,42 @@ class Layers:
         """The place itself, or one beside it: a step of a double, or a thousandth of a millimetre away."""
         a, b = self.random.choice([(0.0, 0.0), (-1.0, 1.0), (1.0, 1.0), (1.0, -1.0), (-1.0, -1.0)])
         if self.random.random() < 0.5:
-            return x + a * 1e-6, y + b * 1e-6
+            return x + a * 1e-6 * self.unit, y + b * 1e-6 * self.unit
         return nextafter(x, x + a), nextafter(y, y + b)
+
+    def cost(self, kind: str, towns: Towns, x: float, y: float) -> tuple[Fraction, Fraction]:
+        """Of a place: exactly on a grid, and by PROJ on the ground, from below and from above."""
+        if not self.degrees:
+            return cost(kind, towns, x, y)
+        count, places = len(towns.places), np.array(towns.places)
+        ways = GEOD.inv(np.full(count, x), np.full(count, y), places[:, 0], places[:, 1])[2]
+        ends = np.array([np.inf if cutoff is None else float(cutoff) for cutoff in towns.cutoffs])
+        terms = np.array([float(weight) for weight in towns.weights]) / towns.share * np.minimum(ways, ends)
+        found = Fraction(float(terms.max() if kind == "max" else terms.sum()))
+        return found, found
 
     def is_permitted(self, x: float, y: float) -> bool:
         """By the crossings of a ray, in fractions; not where it is on an edge."""
         place = Fraction(x), Fraction(y)
         return (turns_of(self.rings, *place) or 0) > 0 and turns_of(self.forests, *place) == 0
+
+
+def to_degrees(folder: Path) -> None:
+    """Brings made layers from their grid to degrees: vertices and towns; edges are straight between."""
+    turn = pyproj.Transformer.from_crs(25832, 4258, always_xy=True)
+    for path in folder.glob("*.geojson"):
+        layer = json.loads(path.read_text())
+        for feature in layer["features"]:
+            rings = feature["geometry"]["coordinates"]
+            feature["geometry"]["coordinates"] = [[list(turn.transform(*place)) for place in ring] for ring in rings]
+        path.write_text(json.dumps(layer | {"crs": {"type": "name", "properties": {"name": "EPSG:4258"}}}))
+    with open(folder / "towns.csv", newline="") as file:
+        head, *rows = csv.reader(file)
+    at = head.index("x"), head.index("y")
+    for row in rows:
+        row[at[0]], row[at[1]] = map(repr, turn.transform(float(row[at[0]]), float(row[at[1]])))
+    with open(folder / "towns.csv", "w", newline="") as file:
+        csv.writer(file).writerows([head, *rows])
 
 
 def turns_of(rings: Sequence[Ring], x: Fraction, y: Fraction) -> int | None:
@@ -127,12 +165,13 @@ def test_no_permitted_place_costs_less(tmp_path: Path, seed: int) -> None:
     bound, site, kind = Fraction(str(said["bound"])), said["site"], str(said["kind"])
     assert isinstance(site, dict)
     x, y = float(site["x"]), float(site["y"])
-    assert layers.permitted.distance(Point(x, y)) < 1e-6
+    assert layers.permitted.distance(Point(x, y)) < 1e-6 * layers.unit
+    assert said["distance"] == ("ground" if layers.degrees else "grid")
     towns = layers.towns()
-    low, high = cost(kind, towns, x, y)
+    low, high = layers.cost(kind, towns, x, y)
     assert bound <= high and low <= Fraction(said["cost"][1])  # type: ignore[index]
     tried = list(zip(range(PLACES), layers.places((x, y))))
     near = np.array([place for _, place in tried])
     assert len(set(map(tuple, near.tolist()))) > PLACES / 2
     for _, place in tried:
-        assert cost(kind, towns, *place)[1] >= bound, place
+        assert layers.cost(kind, towns, *place)[1] >= bound, place

@@ -13,7 +13,7 @@ from siting.problem import Problem
 from siting.program import BUILT, Program
 from siting.proposals.joining import join, to_groups
 from siting.questions import QUESTIONS
-from siting.exact.charges import ENDLESS, Town
+from siting.exact.frame import ENDLESS, Town
 from siting.tiles import Limits, Search
 
 HERE = Path(__file__).parent

@@ -26,8 +26,9 @@ def code_lines(text: str) -> set[int]:
     return lines
 
 
-def test_trusted_modules_have_at_most_400_lines_of_code() -> None:
-    assert sum(len(code_lines(path.read_text())) for path in EXACT) <= 400
+def test_trusted_modules_have_at_most_400_lines_of_code_and_120_for_the_ground() -> None:
+    counts = {path.stem: len(code_lines(path.read_text())) for path in EXACT}
+    assert counts.pop("ground") <= 120 and sum(counts.values()) <= 400
 
 
 def test_trusted_modules_import_the_standard_library_alone() -> None:

@@ -45,11 +45,7 @@ def crossing(edge: Edge, x: int, y: int, q: int, u: Direction = (0, 0)) -> int:
     if up == ((ay * q, 0, 0) > height):
         return 0
     dx, dy = bx - ax, by - ay
-    turn = (
-        dx * (y - ay * q) - dy * (x - ax * q),
-        dx * u[1] - dy * u[0],
-        dx * u[0] + dy * u[1],
-    )
+    turn = (dx * (y - ay * q) - dy * (x - ax * q), dx * u[1] - dy * u[0], dx * u[0] + dy * u[1])
     if up:
         return 1 if turn > (0, 0, 0) else 0
     return -1 if turn < (0, 0, 0) else 0

@@ -9,18 +9,8 @@ from math import isqrt
 from typing import NamedTuple
 
 from .cost import Towns, root_up
-from .frame import GRID, Frame
-
-ENDLESS = 1 << 62  # beyond every distance
-
-
-class Town(NamedTuple):
-    """A town, at most one grid unit from where it is; its cutoff, likewise, or ENDLESS."""
-
-    x: int
-    y: int
-    weight: int
-    cutoff: int
+from .frame import ENDLESS, GRID, Frame, Town
+from .ground import Ground, reach_of
 
 
 class Group(NamedTuple):
@@ -40,6 +30,7 @@ class Charge(NamedTuple):
     joined: int
     cutoffs: int
     weights: int
+    ground: int = 0
 
 
 class Measure(NamedTuple):
@@ -62,8 +53,7 @@ def to_grid(frame: Frame, towns: Towns) -> list[Town]:
     """The towns in a frame's grid units."""
     unit = frame.grid_unit()
     ends = [ENDLESS if cutoff is None else round(cutoff / unit) for cutoff in towns.cutoffs]
-    places = [frame.grid(x, y) for x, y in towns.places]
-    return [Town(x, y, w, c) for (x, y), w, c in zip(places, towns.weights, ends, strict=True)]
+    return [Town(*frame.grid(*p), w, c) for p, w, c in zip(towns.places, towns.weights, ends, strict=True)]
 
 
 def measure(group: Group, towns: Sequence[Town], scale: int) -> Measure:
@@ -118,14 +108,15 @@ def greatest(bands: list[tuple[Measure, int, int]]) -> list[tuple[Measure, int, 
 class Charges:
     """The charges of all groups, square by square."""
 
-    def __init__(self, kind: str, towns: Sequence[Town], groups: Sequence[Group], scale: int):
+    def __init__(
+        self, kind: str, towns: Sequence[Town], groups: Sequence[Group], scale: int, ground: Ground | None = None
+    ):
         members = [number for group in groups for number in group.members]
         wrong = len(members) < len(towns) if kind == "sum" else len(members) > len(groups)
-        if wrong or len(set(members)) < len(members) or not set(members) <= set(range(len(towns))) or scale < 1:
-            raise ValueError(
-                "each town is in one group, and of the kind max alone, or in none; and the scale is above 0"
-            )
-        self.kind, self.scale = kind, scale
+        numbers = set(members)
+        if wrong or len(numbers) < len(members) or not numbers <= set(range(len(towns))) or scale < 1:
+            raise ValueError("each town is in one group, and of the kind max alone, or in none; the scale is above 0")
+        self.kind, self.scale, self.ground = kind, scale, ground
         measures = [measure(group, towns, scale) for group in groups]
         same = [group for group in measures if kind == "sum" and unvarying(group)]
         self.constant = Charge(sum(g.total for g in same), sum(g.moment for g in same), 0, 0)
@@ -140,12 +131,16 @@ class Charges:
 
     def compute(self, x: int, y: int, side: int) -> Charge:
         """The charge, computed anew: by one distance a group, and how far the square's points are from there."""
-        half = side - side // 2
+        half, most = side - side // 2, reach_of(x, y, side)
         x, y, reach = x + side // 2, y + side // 2, root_up(2 * half * half)
-        bands = []
-        for group in self.groups:
-            way = isqrt((group.x - x) ** 2 + (group.y - y) ** 2)
-            bands.append((group, max(0, way - reach), way + 1 + reach))
+        ways = [isqrt((group.x - x) ** 2 + (group.y - y) ** 2) for group in self.groups]
+        bands = [(group, max(0, way - reach), way + 1 + reach) for group, way in zip(self.groups, ways)]
         if self.kind == "max":
-            return max((charge(*band) for band in greatest(bands)), key=sum)
-        return Charge(*map(sum, zip(self.constant, *(charge(*band) for band in bands))))
+            return max((self.on_ground(charge(*band), band[0], most) for band in greatest(bands)), key=sum)
+        found = Charge(*map(sum, zip(self.constant, *(charge(*band) for band in bands))))
+        return found._replace(ground=self.ground.of(most)) if self.ground else found
+
+    def on_ground(self, found: Charge, group: Measure, most: int) -> Charge:
+        """The charge of a group of one town, with what it can differ on the ground."""
+        place = group.x, group.y, group.radius
+        return found._replace(ground=self.ground.of_one(group.total, *place, most)) if self.ground else found

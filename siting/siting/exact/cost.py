@@ -37,10 +37,14 @@ def cost(kind: str, towns: Towns, x: float, y: float) -> tuple[Fraction, Fractio
     values = [x, y, *(value for place in towns.places for value in place)]
     bits = max(FINEST, *(value.as_integer_ratio()[1].bit_length() - 1 for value in values))
     x0, y0, *whole = (nearest(value, bits) for value in values)  # exactly
+    squares = [(a - x0) ** 2 + (b - y0) ** 2 for a, b in zip(whole[::2], whole[1::2])]
+    return total(kind, towns, [(isqrt(square), root_up(square)) for square in squares], bits)
+
+
+def total(kind: str, towns: Towns, ways: Sequence[tuple[int, int]], bits: int) -> tuple[Fraction, Fraction]:
+    """Between what the cost is of towns whose distances lie between these, in 2^-bits units."""
     below, above = [], []
-    for a, b, weight, cutoff in zip(whole[::2], whole[1::2], towns.weights, towns.cutoffs, strict=True):
-        square = (a - x0) ** 2 + (b - y0) ** 2
-        less, more = isqrt(square), root_up(square)
+    for (less, more), weight, cutoff in zip(ways, towns.weights, towns.cutoffs, strict=True):
         if cutoff is not None:
             less, more = min(less, floor(cutoff * 2**bits)), min(more, ceil(cutoff * 2**bits))
         below.append(weight * (less if weight > 0 else more))

@@ -4,6 +4,16 @@ from fractions import Fraction
 from typing import NamedTuple
 
 GRID = 16  # a length has 2^16 grid units
+ENDLESS = 1 << 62  # beyond every distance
+
+
+class Town(NamedTuple):
+    """A town, at most one grid unit from where it is; its cutoff, likewise, or ENDLESS."""
+
+    x: int
+    y: int
+    weight: int
+    cutoff: int
 
 
 def nearest(value: float | Fraction, bits: int) -> int:

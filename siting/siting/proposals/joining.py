@@ -10,8 +10,8 @@ from math import gcd
 import numpy as np
 import numpy.typing as npt
 
-from ..exact.charges import ENDLESS, Group, Town
-from ..exact.frame import GRID
+from ..exact.charges import Group
+from ..exact.frame import ENDLESS, GRID, Town
 
 POINTS = 4096  # of an instance
 WEIGHTS = 16_000_000  # sum of sizes, of an instance

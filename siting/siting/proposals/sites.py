@@ -5,11 +5,11 @@ from functools import cached_property
 
 import numpy as np
 import numpy.typing as npt
-from shapely.geometry import Point, Polygon
-from shapely.geometry.base import BaseGeometry
-from shapely.ops import nearest_points, unary_union
+from osgeo import ogr
 
+from .. import geos
 from ..exact.cost import Towns
+from ..layers import is_counter_clockwise
 
 Floats = npt.NDArray[np.float64]
 Place = tuple[float, float]
@@ -25,10 +25,17 @@ class Landscape:
         ends = [np.inf if cutoff is None else float(cutoff) for cutoff in towns.cutoffs]
         self.cutoffs = np.array(ends)
 
+    def ways(self, x: float, y: float) -> Floats:
+        """The distance of each town."""
+        return np.hypot(self.x - x, self.y - y)
+
+    def between(self, x: Floats, y: Floats, a: Floats, b: Floats) -> Floats:
+        """The distances of places (x, y) and (a, b), about."""
+        return np.asarray(np.hypot(a - x, b - y), dtype=np.float64)
+
     def terms(self, x: float, y: float) -> Floats:
         """Weight times distance of each town."""
-        ways = np.hypot(self.x - x, self.y - y)
-        return np.asarray(self.weights * np.minimum(ways, self.cutoffs), dtype=np.float64)
+        return np.asarray(self.weights * np.minimum(self.ways(x, y), self.cutoffs), dtype=np.float64)
 
     def cost(self, x: float, y: float) -> float:
         """The sum or the greatest of the terms."""
@@ -79,28 +86,27 @@ class Permitted:
         self.region, self.forbidden = region, forbidden
 
     @cached_property
-    def area(self) -> BaseGeometry:
+    def area(self) -> ogr.Geometry:
         """The region less the forbidden areas."""
-        return filled(self.region).difference(filled(self.forbidden))
+        return geos.less(filled(self.region), filled(self.forbidden))
 
     def near(self, x: float, y: float, margin: float) -> list[Place]:
         """Places within the area by a margin, where it has room, the one nearest to (x, y) first; else some within."""
         places = []
-        for inner in (self.area.buffer(-margin), self.area.buffer(-margin / 1000)):
-            if not inner.is_empty:
-                places.append(nearest_points(inner, Point(x, y))[0])
-        parts = sorted(getattr(self.area, "geoms", [self.area]), key=lambda part: -part.area)
-        places += [part.representative_point() for part in parts[:20] if not part.is_empty]
-        return [(float(place.x), float(place.y)) for place in places]
+        for inner in (geos.grown(self.area, -margin), geos.grown(self.area, -margin / 1000)):
+            if geos.parts(inner):
+                places.append(geos.nearest(inner, x, y))
+        parts = sorted(geos.parts(self.area), key=lambda part: -part.Area())
+        return places + [geos.inner_place(part) for part in parts[:20]]
 
 
-def filled(rings: Sequence[Sequence[Place]]) -> BaseGeometry:
+def filled(rings: Sequence[Sequence[Place]]) -> ogr.Geometry:
     """The area of rings: outer ones counter-clockwise, holes clockwise, islands in holes."""
-    area: BaseGeometry = Polygon()
-    outer = []
-    for ring in sorted((Polygon(ring) for ring in rings), key=lambda ring: -ring.area):
-        if ring.exterior.is_ccw:
-            outer.append(ring.buffer(0))
+    area, outer = geos.areas([]), []
+    for ring in sorted(rings, key=lambda ring: -geos.areas([[ring]]).Area()):
+        valid = geos.grown(geos.areas([[ring]]), 0)
+        if is_counter_clockwise(ring):
+            outer.append(valid)
         else:
-            area, outer = unary_union([area, *outer]).difference(ring.buffer(0)), []
-    return unary_union([area, *outer])
+            area, outer = geos.less(geos.joined([area, *outer]), valid), []
+    return geos.joined([area, *outer])

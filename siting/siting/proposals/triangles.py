@@ -5,6 +5,8 @@ and leaves their third, and what a triangulator leaves over is closed and gets f
 """
 
 from collections import defaultdict
+from fractions import Fraction
+from math import floor
 
 from ..exact.chains import edges_of, remainder, winding
 from ..exact.plane import Edge, Point, Ring, ring_edges, side
@@ -96,23 +98,34 @@ def bridged(polygon: Polygon) -> list[Point]:
 
 
 def bridge_end(ring: list[Point], p: Point) -> int:
-    """The ring's vertex that p sees along the ray to the right, or that hides it."""
+    """The number of the ring's vertex that a bridge from p, the rightmost place of a hole, may end at: the right end of
+    the edge that the ray to the right meets first, or of the vertices that hide it the one nearest to the ray."""
     best, edge = None, 0
     for i, (a, b) in enumerate(zip(ring, ring[1:] + ring[:1])):
         if a[1] <= p[1] <= b[1] and a[1] < b[1] and side(a, b, p) >= 0:
-            x = a[0] + (b[0] - a[0]) * (p[1] - a[1]) / (b[1] - a[1])
+            x = Fraction((b[0] - a[0]) * (p[1] - a[1]), b[1] - a[1]) + a[0]
             if best is None or x < best:
                 best, edge = x, i
     if best is None:
         return max(range(len(ring)), key=lambda i: ring[i])
     far = edge if ring[edge][0] > ring[(edge + 1) % len(ring)][0] else (edge + 1) % len(ring)
-    hit = (int(best), p[1])
+    hit = (floor(best), p[1])
     corner = (p, hit, ring[far]) if ring[far][1] >= p[1] else (p, ring[far], hit)
-    inside = [i for i, q in enumerate(ring) if q[0] > p[0] and in_triangle(corner, q)]
-    return min(
-        inside + [far],
-        key=lambda i: (abs(ring[i][1] - p[1]) / max(1, ring[i][0] - p[0]), ring[i][0]),
-    )
+    hiding = [i for i, q in enumerate(ring) if q[0] > p[0] and in_triangle(corner, q) and sees(ring, i, p)]
+    return min(hiding or [far], key=lambda i: (steepness(p, ring[i]), ring[i][0]))
+
+
+def steepness(p: Point, q: Point) -> Fraction:
+    """How steep the way from p to q is, which lies to its right."""
+    return Fraction(abs(q[1] - p[1]), max(1, q[0] - p[0]))
+
+
+def sees(ring: list[Point], i: int, p: Point) -> bool:
+    """Whether p lies between the edges of the ring's vertex, inside what the ring goes round."""
+    before, here, after = ring[i - 1], ring[i], ring[(i + 1) % len(ring)]
+    if side(before, here, after) > 0:
+        return side(before, here, p) >= 0 and side(here, after, p) >= 0
+    return side(before, here, p) > 0 or side(here, after, p) > 0
 
 
 def in_triangle(triangle: Triangle, p: Point) -> bool:
@@ -139,8 +152,7 @@ def by_ears(ring: list[Point]) -> list[Triangle]:
         after[i], before[j] = j, i
         reflex.discard(here)
         for k in (i, j):
-            if k in reflex and side(ring[before[k]], ring[k], ring[after[k]]) > 0:
-                reflex.discard(k)
+            (reflex.discard if side(ring[before[k]], ring[k], ring[after[k]]) > 0 else reflex.add)(k)
         count, missed, here = count - 1, 0, after[j]
     triangles.append((ring[before[here]], ring[here], ring[after[here]]))
     return [t for t in triangles if t[0] != t[1] != t[2] != t[0]]
